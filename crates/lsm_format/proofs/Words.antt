@@ -1,0 +1,65 @@
+-- Laws of `word`: a number that fits is itself, one that does not is none, and what a checked sum or product tells of the
+-- number that it reckoned. Assumes nothing.
+use Prim.Native.Nat.{ℕ, _*_, _/_, _^_, _-_, _<_, _≤_}
+use native.Mathlib.Nat.{le-div-iff-mul-le, div-lt-iff-lt-mul, le-mul-of-pos-right}
+use native.Mathlib.Omega.{arith}
+use mathlib.Core.Bool.{Bool, true, false}
+use mathlib.Core.Path.{_≡_, refl, sym, ap, _∙_}
+use mathlib.Core.Option.{none, some}
+use lib.Dec.{ltb}
+use borrow.Author.Tests.{lt-ltb, le-ltb, ltb-true, ltb-false}
+use Rattle.lsm_format.specs.Words.{word}
+use Rattle.lsm_format.specs.Code.{wordOf}
+use Rattle.lsm_format.specs.declared.checked.Word.{Word}
+use Rattle.lsm_format.specs.declared.checked.Word.the-variants.{Value, Overflow}
+
+pub word-fits : {n : ℕ} → n < 2 ^ 64 → word n ≡ some n
+unfolding word
+word-fits {n} h = rw (lt-ltb n (2 ^ 64) h, word)
+
+pub word-over : {n : ℕ} → 2 ^ 64 ≤ n → word n ≡ none
+unfolding word
+word-over {n} h = rw (le-ltb n (2 ^ 64) h, word)
+
+-- ---- the way back
+
+some-by : (n x : ℕ) (b : Bool) → ltb n (2 ^ 64) ≡ b → word n ≡ some x → (x ≡ n) × (n < 2 ^ 64)
+some-by n x true t e = let f : word n ≡ some n = word-fits (ltb-true n (2 ^ 64) t) in (cc, ltb-true n (2 ^ 64) t)
+some-by n x false t e =
+    let f : word n ≡ none = word-over (ltb-false n (2 ^ 64) t) in
+    let z : _≡_ {A = ℕ} 0 1 = cc in
+    absurd (omega arith)
+
+pub word-some : (n x : ℕ) → word n ≡ some x → (x ≡ n) × (n < 2 ^ 64)
+word-some n x e = some-by n x (ltb n (2 ^ 64)) refl e
+
+none-by : (n : ℕ) (b : Bool) → ltb n (2 ^ 64) ≡ b → word n ≡ none → 2 ^ 64 ≤ n
+none-by n true t e =
+    let f : word n ≡ some n = word-fits (ltb-true n (2 ^ 64) t) in
+    let z : _≡_ {A = ℕ} 0 1 = cc in
+    absurd (omega arith)
+none-by n false t e = ltb-false n (2 ^ 64) t
+
+pub word-none : (n : ℕ) → word n ≡ none → 2 ^ 64 ≤ n
+word-none n e = none-by n (ltb n (2 ^ 64)) refl e
+
+-- ---- what the code's answer tells
+
+pub told-value : {r : Word} {x : ℕ} (n : ℕ) → wordOf r ≡ word n → r ≡ Value x → word n ≡ some x
+told-value n e v = sym e ∙ ap wordOf v
+
+pub told-overflow : {r : Word} (n : ℕ) → wordOf r ≡ word n → r ≡ Overflow → word n ≡ none
+told-overflow n e v = sym e ∙ ap wordOf v
+
+-- ---- products
+
+-- the test of a product by a quotient
+pub product-fits : (a b : ℕ) → 0 < b → a ≤ (2 ^ 64 - 1) / b → a * b < 2 ^ 64
+product-fits a b p h = omega (arith, le-div-iff-mul-le {k = b} {x = a} {y = 2 ^ 64 - 1} p .0 h)
+
+pub product-over : (a b : ℕ) → 0 < b → (2 ^ 64 - 1) / b < a → 2 ^ 64 ≤ a * b
+product-over a b p h = omega (arith, div-lt-iff-lt-mul {k = b} {x = 2 ^ 64 - 1} {y = a} p .0 h)
+
+-- a product that overflows does so with every further factor but 0
+pub product-stays : (n k : ℕ) → 0 < k → 2 ^ 64 ≤ n → 2 ^ 64 ≤ n * k
+product-stays n k p h = omega (arith, le-mul-of-pos-right n p)
