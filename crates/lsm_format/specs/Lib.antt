@@ -5,4 +5,7 @@ pub mod Numbers
 pub mod Sizes
 pub mod Rectangle
 pub mod Scenes
+pub mod Lent
+pub mod Utf8
+pub mod Calibration
 pub mod Code
