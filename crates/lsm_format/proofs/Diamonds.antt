@@ -1,9 +1,9 @@
 -- Document 01's marked cases, one table about the definitions. Each row has the document's words beside it.
 use mathlib.Core.Path.{_≡_, refl}
-use mathlib.Core.List.{List, [], _∷_}
+use mathlib.Core.List.{[], _∷_}
 use mathlib.Core.Bool.{false}
 use lib.IntN.{pos}
-use lib.Ieee.{Float, fin, binary32, binary64, ofBits, ofFields, odd}
+use lib.Ieee.{fin, binary32, ofBits, ofFields, odd}
 use Rattle.lsm_format.specs.Utf8.{lossy, lossyBy, piece}
 use Rattle.lsm_format.specs.Calibration.{figure, tensAbove, tensBelow}
 

@@ -1,5 +1,5 @@
 -- Laws of the sizes of samples. Assumes nothing.
-use Prim.Native.Nat.{ℕ, _<_}
+use Prim.Native.Nat.{_<_}
 use lib.Dec.{lit<}
 use Rattle.lsm_format.specs.Sizes.{Kind, u8, u16, i16, f32, sampleSize}
 

@@ -1,7 +1,7 @@
 -- Laws of `word`: a number that fits is itself, one that does not is none, and what a checked sum or product tells of the
 -- number that it reckoned. Assumes nothing.
 use Prim.Native.Nat.{ℕ, _*_, _/_, _^_, _-_, _<_, _≤_}
-use native.Mathlib.Nat.{le-div-iff-mul-le, div-lt-iff-lt-mul, le-mul-of-pos-right}
+use native.Mathlib.Nat.{le-div-iff-mul-le, div-lt-iff-lt-mul, le-mul-of-pos-right, mul-le-mul}
 use native.Mathlib.Omega.{arith}
 use mathlib.Core.Bool.{Bool, true, false}
 use mathlib.Core.Path.{_≡_, refl, sym, ap, _∙_}
@@ -63,3 +63,10 @@ product-over a b p h = omega (arith, div-lt-iff-lt-mul {k = b} {x = 2 ^ 64 - 1} 
 -- a product that overflows does so with every further factor but 0
 pub product-stays : (n k : ℕ) → 0 < k → 2 ^ 64 ≤ n → 2 ^ 64 ≤ n * k
 product-stays n k p h = omega (arith, le-mul-of-pos-right n p)
+
+-- a product of two numbers of 32 bits fits
+pub halves-fit : {a b : ℕ} → a < 2 ^ 32 → b < 2 ^ 32 → a * b < 2 ^ 64
+halves-fit {a} {b} h k =
+    let a′ : a ≤ 2 ^ 32 - 1 = omega arith in
+    let b′ : b ≤ 2 ^ 32 - 1 = omega arith in
+    omega (arith, mul-le-mul a′ b′)

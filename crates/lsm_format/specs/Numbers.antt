@@ -50,7 +50,7 @@ abbrev pub f64BitsAt : Order → List ℕ → ℕ → Result ℕ
 f64BitsAt o f at = numberAt 8 o f at
 
 -- "SLONG: A 32-bit (4-byte) signed (twos-complement) integer": from 2 ^ 31 on, what is meant is 2 ^ 32 less.
-abbrev pub signed32 : ℕ → ℤ
+unfoldable pub signed32 : ℕ → ℤ
 signed32 n = elim (ltb n (2 ^ 31)) [ true ↦ pos n | false ↦ pos n -ℤ pos (2 ^ 32) ]
 
 unfoldable pub i32At : Order → List ℕ → ℕ → Result ℤ

@@ -16,10 +16,18 @@ count (negsuc n) = refused decode
 unfoldable pub scenes : ℤ → ℤ → Result ℕ
 scenes p m = bind (count p) (λ positions. bind (count m) (λ tiles. accepted (max 1 (positions * tiles))))
 
+-- How many scenes a file has, and how many pages each of them: its depth, since T is 1.
+pub record Layout : Type 0 where
+  pub scenes : ℕ
+  pub depth : ℕ
+
+unfoldable pub layout : ℤ → ℤ → ℕ → Result Layout
+layout p m depth = bind (scenes p m) (λ n. accepted (record { scenes = n; depth = depth }))
+
 -- "Pages expected are scenes × depth; overflow is Decode."
-unfoldable pub pagesExpected : ℕ → ℕ → Result ℕ
-pagesExpected scenes depth = given decode (word (scenes * depth))
+unfoldable pub pagesExpected : Layout → Result ℕ
+pagesExpected l = given decode (word (l .scenes * l .depth))
 
 -- "Page of a picture: scene × depth + z." There is none for a scene that is not there, and none where the number overflows.
-unfoldable pub pageOf : ℕ → ℕ → ℕ → ℕ → Option ℕ
-pageOf scenes depth scene z = elim (ltb scene scenes) [ true ↦ word (scene * depth + z) | false ↦ none ]
+unfoldable pub pageOf : Layout → ℕ → ℕ → Option ℕ
+pageOf l scene z = elim (ltb scene (l .scenes)) [ true ↦ word (scene * l .depth + z) | false ↦ none ]

@@ -1,5 +1,4 @@
 // Document 01's refusals.
-ghost use mathlib.Core.Path.{_≡_};
 ghost use Rattle.lsm_format.specs.Code.{rowOf, Numbered};
 
 pub enum Refusal {

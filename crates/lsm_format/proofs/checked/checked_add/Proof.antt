@@ -4,22 +4,16 @@ use Rattle.lsm_format.proofs.Words.{word-fits, word-over}
 use borrow.Author.Needs.{needs}
 use Rattle.lsm_format.proofs.checked.checked_add.Statement.{statement}
 use Rattle.lsm_format.proofs.checked.checked_add.Tie as tie
-use Rattle.lsm_format.proofs.checked.checked_add.Reads as reads
-use Rattle.lsm_format.proofs.checked.checked_add.Lts as lts
 
--- src/checked.rt:18:8
 sub-if1 : tie.Need-sub-if1
 sub-if1 c = search needs
 
--- src/checked.rt:21:21
 add-t6 : tie.Need-add-t6
 add-t6 c = search needs
 
--- src/checked.rt:15:1
 returns : tie.Need-returns
 returns c = sym (word-over (omega arith))
 
--- src/checked.rt:15:1
 returns-2 : tie.Need-returns-2
 returns-2 c = sym (word-fits (omega arith))
 

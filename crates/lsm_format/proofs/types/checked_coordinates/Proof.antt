@@ -2,27 +2,21 @@ use Rattle.lsm_format.specs.Rectangle.{coordinates}
 use borrow.Author.Tests.{lt-ltb, le-ltb}
 use Rattle.lsm_format.proofs.types.checked_coordinates.Statement.{statement}
 use Rattle.lsm_format.proofs.types.checked_coordinates.Tie as tie
-use Rattle.lsm_format.proofs.types.checked_coordinates.Reads as reads
-use Rattle.lsm_format.proofs.types.checked_coordinates.Lts as lts
 
--- src/types.rt:127:9
 returns : tie.Need-returns
 unfolding coordinates
 returns c = rw (le-ltb _ _ (c .if1 .taken))
 
--- src/types.rt:130:9
 returns-2 : tie.Need-returns-2
 unfolding coordinates
 returns-2 c = rw (lt-ltb _ _ (c .before .before .if1 .left), le-ltb _ _ (c .if2 .taken))
 
--- src/types.rt:133:9
 returns-3 : tie.Need-returns-3
 unfolding coordinates
 returns-3 c =
     let t = c .before .before .before .before in
     rw (lt-ltb _ _ (t .if1 .left), lt-ltb _ _ (c .before .before .if2 .left), le-ltb _ _ (c .if3 .taken))
 
--- src/types.rt:123:1
 returns-4 : tie.Need-returns-4
 unfolding coordinates
 returns-4 c =

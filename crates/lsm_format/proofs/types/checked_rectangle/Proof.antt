@@ -4,29 +4,21 @@ use Rattle.lsm_format.specs.Rectangle.{rectangle}
 use borrow.Author.Needs.{needs}
 use Rattle.lsm_format.proofs.types.checked_rectangle.Statement.{statement}
 use Rattle.lsm_format.proofs.types.checked_rectangle.Tie as tie
-use Rattle.lsm_format.proofs.types.checked_rectangle.Reads as reads
-use Rattle.lsm_format.proofs.types.checked_rectangle.Lts as lts
-use Rattle.lsm_format.proofs.types.within_size.Reads as within-size-reads
 
--- src/types.rt:152:9
 within-size-requires : tie.Need-within-size-requires
 within-size-requires c κs = search needs
 
--- src/types.rt:153:9
 returns : tie.Need-returns
 unfolding rectangle
 returns c = rw (sym (c .before .within-size .ensures) ∙ not-true _ (c .if1 .taken))
 
--- src/types.rt:155:9
 within-size-requires-2 : tie.Need-within-size-requires-2
 within-size-requires-2 c κs = search needs
 
--- src/types.rt:156:9
 returns-2 : tie.Need-returns-2
 unfolding rectangle
 returns-2 c = rw (sym (c .before .before .before .within-size .ensures) ∙ not-false _ (c .before .before .if1 .left), sym (c .before .within-size2 .ensures) ∙ not-true _ (c .if2 .taken))
 
--- src/types.rt:149:1
 returns-3 : tie.Need-returns-3
 unfolding rectangle
 returns-3 c = rw (sym (c .before .before .before .within-size .ensures) ∙ not-false _ (c .before .before .if1 .left), sym (c .before .within-size2 .ensures) ∙ not-false _ (c .if2 .left))

@@ -5,33 +5,23 @@ use Rattle.lsm_format.specs.Answer.{bind}
 use borrow.Author.Needs.{needs}
 use Rattle.lsm_format.proofs.types.checked_region.Statement.{statement}
 use Rattle.lsm_format.proofs.types.checked_region.Tie as tie
-use Rattle.lsm_format.proofs.types.checked_region.Reads as reads
-use Rattle.lsm_format.proofs.types.checked_region.Lts as lts
-use Rattle.lsm_format.proofs.types.checked_coordinates.Reads as checked-coordinates-reads
-use Rattle.lsm_format.proofs.types.checked_rectangle.Reads as checked-rectangle-reads
 
--- src/types.rt:172:11
 checked-coordinates-requires : tie.Need-checked-coordinates-requires
 checked-coordinates-requires c κs = search needs
 
--- src/types.rt:173:28
 enum-told : tie.Need-enum-told
 enum-told c = search needs
 
--- src/types.rt:173:28
 checked-rectangle-requires : tie.Need-checked-rectangle-requires
 checked-rectangle-requires c κs = search needs
 
--- src/types.rt:174:24
 enum-known-r : tie.Need-enum-known-r
 enum-known-r c = search needs
 
--- src/types.rt:162:1
 returns : tie.Need-returns
 unfolding region bind
 returns c = rw (sym (c .before .before .before .checked-coordinates .ensures) ∙ ap checkOf (c .before .enum-told .given .1)) (c .checked-rectangle .ensures)
 
--- src/types.rt:162:1
 returns-2 : tie.Need-returns-2
 unfolding region bind
 returns-2 c = rw (sym (c .before .before .before .checked-coordinates .ensures) ∙ ap checkOf (c .before .r .given .1))

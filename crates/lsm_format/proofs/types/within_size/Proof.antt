@@ -3,29 +3,21 @@ use Rattle.lsm_format.proofs.Words.{word-none, word-some, told-value, t
 use borrow.Author.Needs.{needs}
 use Rattle.lsm_format.proofs.types.within_size.Statement.{statement}
 use Rattle.lsm_format.proofs.types.within_size.Tie as tie
-use Rattle.lsm_format.proofs.types.within_size.Reads as reads
-use Rattle.lsm_format.proofs.types.within_size.Lts as lts
-use Rattle.lsm_format.proofs.checked.checked_add.Reads as checked-add-reads
 
--- src/types.rt:142:11
 checked-add-requires : tie.Need-checked-add-requires
 checked-add-requires c κs = search needs
 
--- src/types.rt:143:21
 enum-known-end : tie.Need-enum-known-end
 enum-known-end c = search needs
 
--- src/types.rt:144:27
 enum-told : tie.Need-enum-told
 enum-told c = search needs
 
--- src/types.rt:139:1
 returns : tie.Need-returns
 returns c =
     let e = word-some _ _ (told-value _ (c .before .before .before .checked-add .ensures) (c .before .end .given .1)) in
     rw (lt-ltb _ _ (e .1), e .0)
 
--- src/types.rt:139:1
 returns-2 : tie.Need-returns-2
 returns-2 c = rw (le-ltb _ _ (word-none _ (told-overflow _ (c .before .before .checked-add .ensures) (c .enum-told .given .1))))
 

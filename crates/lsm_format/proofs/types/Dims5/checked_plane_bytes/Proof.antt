@@ -6,33 +6,24 @@ use Rattle.lsm_format.specs.Answer.{bind}
 use borrow.Author.Needs.{needs}
 use Rattle.lsm_format.proofs.types.Dims5.checked_plane_bytes.Statement.{statement}
 use Rattle.lsm_format.proofs.types.Dims5.checked_plane_bytes.Tie as tie
-use Rattle.lsm_format.proofs.types.Dims5.checked_plane_bytes.Reads as reads
-use Rattle.lsm_format.proofs.types.Dims5.checked_plane_bytes.Lts as lts
-use Rattle.lsm_format.proofs.types.Dims5.plane_bytes_no_ceiling.Reads as plane-bytes-no-ceiling-reads
 
--- src/types.rt:80:15
 plane-bytes-no-ceiling-requires : tie.Need-plane-bytes-no-ceiling-requires
 plane-bytes-no-ceiling-requires c κs = search needs
 
--- src/types.rt:81:31
 enum-known-bytes : tie.Need-enum-known-bytes
 enum-known-bytes c = search needs
 
--- src/types.rt:91:33
 enum-known-r : tie.Need-enum-known-r
 enum-known-r c = search needs
 
--- src/types.rt:77:5
 returns : tie.Need-returns
 unfolding pictureSize bind
 returns c = rw (sym (c .before .before .before .before .plane-bytes-no-ceiling .ensures) ∙ ap bytesOf (c .before .before .bytes .given .1), le-leb _ _ (c .if1 .taken))
 
--- src/types.rt:77:5
 returns-2 : tie.Need-returns-2
 unfolding pictureSize bind
 returns-2 c = rw (sym (c .before .before .before .before .plane-bytes-no-ceiling .ensures) ∙ ap bytesOf (c .before .before .bytes .given .1), lt-leb _ _ (c .if1 .left))
 
--- src/types.rt:77:5
 returns-3 : tie.Need-returns-3
 unfolding pictureSize bind
 returns-3 c = rw (sym (c .before .before .before .plane-bytes-no-ceiling .ensures) ∙ ap bytesOf (c .before .r .given .1))

@@ -1,51 +1,37 @@
-use native.Mathlib.Omega.{arith}
-use mathlib.Core.Path.{sym, _∙_}
-use Rattle.lsm_format.specs.Sizes.{sampleSize, unlimitedSize}
+use mathlib.Core.Path.{sym}
+use Rattle.lsm_format.specs.Sizes.{unlimitedSize}
 use Rattle.lsm_format.specs.Code.{kindOf}
 use Rattle.lsm_format.proofs.Words.{word-over, word-none, word-some, product-stays, told-value, told-overflow}
 use Rattle.lsm_format.proofs.Sizes.{sampleSize-pos}
 use borrow.Author.Needs.{needs}
 use Rattle.lsm_format.proofs.types.Dims5.plane_bytes_no_ceiling.Statement.{statement}
 use Rattle.lsm_format.proofs.types.Dims5.plane_bytes_no_ceiling.Tie as tie
-use Rattle.lsm_format.proofs.types.Dims5.plane_bytes_no_ceiling.Reads as reads
-use Rattle.lsm_format.proofs.types.Dims5.plane_bytes_no_ceiling.Lts as lts
-use Rattle.lsm_format.proofs.checked.checked_mul.Reads as checked-mul-reads
-use Rattle.lsm_format.proofs.types.DType.size_bytes.Reads as size-bytes-reads
 
--- src/types.rt:67:36
 checked-mul-requires : tie.Need-checked-mul-requires
 checked-mul-requires c κs = search needs
 
--- src/types.rt:67:25
 enum-known-samples : tie.Need-enum-known-samples
 enum-known-samples c = search needs
 
--- src/types.rt:68:13
 enum-told : tie.Need-enum-told
 enum-told c = search needs
 
--- src/types.rt:68:13
 returns : tie.Need-returns
 unfolding unlimitedSize
 returns c = rw (word-over (product-stays _ _ (sampleSize-pos (kindOf (c .before .before .before .args .dtype))) (word-none _ (told-overflow _ (c .before .before .checked-mul .ensures) (c .enum-told .given .1)))))
 
--- src/types.rt:70:36
 size-bytes-requires : tie.Need-size-bytes-requires
 size-bytes-requires c κs = search needs
 
--- src/types.rt:70:15
 checked-mul-requires-2 : tie.Need-checked-mul-requires-2
 checked-mul-requires-2 c κs = search needs
 
--- src/types.rt:71:25
 enum-known-bytes : tie.Need-enum-known-bytes
 enum-known-bytes c = search needs
 
--- src/types.rt:72:31
 enum-told-2 : tie.Need-enum-told-2
 enum-told-2 c = search needs
 
--- src/types.rt:60:5
 returns-2 : tie.Need-returns-2
 unfolding unlimitedSize
 returns-2 c =
@@ -53,7 +39,6 @@ returns-2 c =
     let s = b .before .before .before in
     rw (sym (word-some _ _ (told-value _ (s .before .before .checked-mul .ensures) (s .samples .given .1)) .0), sym (b .before .size-bytes .ensures), told-value _ (b .checked-mul2 .ensures) (c .before .bytes .given .1))
 
--- src/types.rt:60:5
 returns-3 : tie.Need-returns-3
 unfolding unlimitedSize
 returns-3 c =

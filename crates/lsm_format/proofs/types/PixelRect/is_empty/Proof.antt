@@ -1,14 +1,10 @@
 use borrow.Author.Tests.{eq-eqb, ne-eqb}
 use Rattle.lsm_format.proofs.types.PixelRect.is_empty.Statement.{statement}
 use Rattle.lsm_format.proofs.types.PixelRect.is_empty.Tie as tie
-use Rattle.lsm_format.proofs.types.PixelRect.is_empty.Reads as reads
-use Rattle.lsm_format.proofs.types.PixelRect.is_empty.Lts as lts
 
--- src/types.rt:116:13
 returns : tie.Need-returns
 returns c = rw (eq-eqb _ _ (c .if1 .taken))
 
--- src/types.rt:112:5
 returns-2 : tie.Need-returns-2
 returns-2 c = rw (ne-eqb _ _ (c .before .if1 .left))
 

@@ -1,0 +1,33 @@
+use mir.ValLaws.{toZ-ofZ}
+use mir.Syntax.{w32}
+use mathlib.Core.Path.{sym, ap, _∙_}
+use Rattle.lsm_format.specs.Numbers.{i32At}
+use Rattle.lsm_format.specs.Answer.{bind}
+use Rattle.lsm_bytes.specs.Code.{u32Of}
+use borrow.Author.Needs.{needs}
+use Rattle.lsm_bytes.proofs.read_i32.Statement.{statement}
+use Rattle.lsm_bytes.proofs.read_i32.Tie as tie
+
+read-u32-requires : tie.Need-read-u32-requires
+read-u32-requires c κs = search needs
+
+enum-known-n : tie.Need-enum-known-n
+enum-known-n c = search needs
+
+signed-requires : tie.Need-signed-requires
+signed-requires c κs = search needs
+
+enum-told : tie.Need-enum-told
+enum-told c = search needs
+
+returns : tie.Need-returns
+unfolding i32At bind
+returns c = rw (toZ-ofZ w32 (c .signed .result) (record { sfits = c .signed .ok }), sym (c .before .before .before .before .read-u32 .ensures) ∙ ap u32Of (c .before .before .n .given .1), c .signed .ensures)
+
+returns-2 : tie.Need-returns-2
+unfolding i32At bind
+returns-2 c = rw (sym (c .before .before .read-u32 .ensures) ∙ ap u32Of (c .enum-told .given .1))
+
+pub read-i32-spec : {M : Type 1} → statement M
+read-i32-spec =
+    tie.close (tie.spec read-u32-requires enum-known-n signed-requires enum-told returns returns-2)

@@ -1,0 +1,54 @@
+-- Laws of scenes and pages, a case each. Assumes nothing.
+use Prim.Native.Nat.{ℕ, _+_, _*_, _≤_, _<_, max}
+use native.Mathlib.Omega.{arith}
+use mathlib.Core.Bool.{true, false}
+use mathlib.Core.Path.{_≡_, refl, sym}
+use mathlib.Core.Option.{none, some}
+use lib.IntN.{ℤ, pos, negsuc, natAbs}
+use lib.Signed.{ltZ, nonNeg}
+use lib.Dec.{T}
+use borrow.Author.Tests.{lt-ltb, le-ltb, ltb-true}
+use Rattle.lsm_format.specs.Answer.{accepted, refused, bind, decode}
+use Rattle.lsm_format.specs.Words.{word}
+use Rattle.lsm_format.specs.Scenes.{Layout, count, scenes, layout, pageOf}
+use Rattle.lsm_format.proofs.Words.{word-over, word-none, word-some}
+
+-- a count below 0, and one that is not
+pub count-negative : (z : ℤ) → ltZ z (pos 0) ≡ true → refused decode ≡ count z
+count-negative (pos n) t = absurd (omega (arith, ltb-true n 0 t))
+count-negative (negsuc n) t = refl
+
+pub count-natural : (z : ℤ) → ltZ z (pos 0) ≡ false → T (nonNeg z) × (accepted (natAbs z) ≡ count z)
+count-natural (pos n) t = (tt, refl)
+count-natural (negsuc n) t = let z : _≡_ {A = ℕ} 0 1 = cc in absurd (omega arith)
+
+-- the layout by its counts: P first, then M
+module _ (p m : ℤ) (depth : ℕ) where
+  pub layout-negative : count p ≡ refused decode → refused decode ≡ layout p m depth
+  unfolding layout scenes bind
+  layout-negative h = rw (h, layout, scenes, bind)
+
+  pub layout-negative-tiles : (a : ℕ) → count p ≡ accepted a → count m ≡ refused decode → refused decode ≡ layout p m depth
+  unfolding layout scenes bind
+  layout-negative-tiles a h k = rw (h, k, layout, scenes, bind)
+
+  pub layout-is : (a b n : ℕ) → count p ≡ accepted a → count m ≡ accepted b → n ≡ max 1 (a * b) →
+      accepted (record { scenes = n; depth = depth }) ≡ layout p m depth
+  unfolding layout scenes bind
+  layout-is a b n h k e = rw (h, k, e, layout, scenes, bind)
+
+-- the page of a picture: no such scene; a product or a sum that overflows; the page
+module _ (l : Layout) (scene z : ℕ) where
+  pub page-outside : l .scenes ≤ scene → none ≡ pageOf l scene z
+  unfolding pageOf
+  page-outside h = rw (le-ltb scene (l .scenes) h, pageOf)
+
+  page-inside : scene < l .scenes → pageOf l scene z ≡ word (scene * l .depth + z)
+  unfolding pageOf
+  page-inside h = rw (lt-ltb scene (l .scenes) h, pageOf)
+
+  pub page-over : scene < l .scenes → word (scene * l .depth) ≡ none → none ≡ pageOf l scene z
+  page-over h e = rw (page-inside h) (sym (word-over (omega (arith, word-none _ e))))
+
+  pub page-at : scene < l .scenes → (first : ℕ) → word (scene * l .depth) ≡ some first → word (first + z) ≡ pageOf l scene z
+  page-at h first e = rw (page-inside h, word-some _ _ e .0)
