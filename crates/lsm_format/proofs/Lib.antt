@@ -2,5 +2,3 @@ pub mod Words
 pub mod Sizes
 pub mod Scenes
 pub mod Numbers
-pub mod TwoFiles
-pub mod Diamonds
