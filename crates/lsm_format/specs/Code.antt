@@ -17,6 +17,8 @@ use Rattle.lsm_format.specs.declared.types.Endian.{Endian}
 use Rattle.lsm_format.specs.declared.types.Endian.the-variants.{Little, Big}
 use Rattle.lsm_format.specs.declared.types.DType.{DType}
 use Rattle.lsm_format.specs.declared.types.DType.the-variants.{U8, U16, I16, F32}
+use Rattle.lsm_format.specs.declared.types.ChannelBlock.{ChannelBlock}
+use Rattle.lsm_format.specs.declared.types.ChannelBlock.the-variants.{Absent, At}
 use Rattle.lsm_format.specs.declared.types.Dims5.{Dims5}
 use Rattle.lsm_format.specs.declared.types.PixelRect.{PixelRect}
 use Rattle.lsm_format.specs.declared.types.PlaneBytes.{PlaneBytes}
@@ -54,6 +56,10 @@ dimsOf d = record { t = d .t; c = d .c; z = d .z; y = d .y; x = d .x }
 
 abbrev pub rectOf : PixelRect → Rect
 rectOf r = record { x = r .x; y = r .y; w = r .w; h = r .h }
+
+abbrev pub blockOf : ChannelBlock → Option ℕ
+blockOf Absent = none
+blockOf (At place) = some place
 
 abbrev pub wordOf : Word → Option ℕ
 wordOf (Value n) = some n

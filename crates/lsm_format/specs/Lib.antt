@@ -8,4 +8,6 @@ pub mod Scenes
 pub mod Lent
 pub mod Utf8
 pub mod Calibration
+pub mod CzInfo
+pub mod Channels
 pub mod Code

@@ -93,6 +93,12 @@ impl Dims5 {
     }
 }
 
+// Where the channel block stands, if the file has one.
+pub enum ChannelBlock {
+    Absent,
+    At(usize),
+}
+
 // A rectangle of a picture: its left column and top row, its width and height, in samples.
 pub struct PixelRect {
     pub x: usize,

@@ -1,0 +1,74 @@
+-- `utf8::put` meets its contract: the bytes of a sequence, or U+FFFD. Assumes nothing.
+use native.Mathlib.Omega.{arith}
+use mathlib.Core.Path.{sym, ap, _∙_}
+use borrow.Author.Needs.{needs}
+use lib.ListN.{length-take, length-drop}
+use Rattle.utf8.specs.Pieces.{pieceOf, taken, given}
+use Rattle.utf8.specs.declared.Piece.{Piece}
+use Rattle.utf8.proofs.Text.{text-whole, text-part}
+use Rattle.utf8.proofs.put.Statement.{statement}
+use Rattle.utf8.proofs.put.Tie as tie
+
+enum-known-p : tie.Need-enum-known-p
+enum-known-p c = search needs
+
+add-copy : tie.Need-add-copy
+add-copy c = omega (arith, ap (λ (q : Piece). taken (pieceOf q)) (c .before .p .given .1), c .before .before .before .before .before .pre .1 .0 .inside)
+
+add-copy-2 : tie.Need-add-copy-2
+add-copy-2 c = omega (arith, ap (λ (q : Piece). taken (pieceOf q)) (c .before .p .given .1), c .before .before .before .before .before .pre .1 .0 .inside)
+
+sub-copy : tie.Need-sub-copy
+sub-copy c = search needs
+
+part-copy-start : tie.Need-part-copy-start
+part-copy-start c = search needs
+
+part-copy-end : tie.Need-part-copy-end
+part-copy-end c = omega (arith, ap (λ (q : Piece). taken (pieceOf q)) (c .before .p .given .1), c .before .before .before .before .before .pre .1 .0 .inside)
+
+copy-requires : tie.Need-copy-requires
+copy-requires c κs =
+    rw (length-take, length-drop)
+    (omega (arith, c .before .before .before .before .before .before .before .pre .1 .1, c .before .before .before .before .before .before .before .pre .1 .0 .inside, ap (λ (q : Piece). given (pieceOf q)) (c .before .before .before .p .given .1), ap (λ (q : Piece). taken (pieceOf q)) (c .before .before .before .p .given .1)))
+
+enum-told : tie.Need-enum-told
+enum-told c = search needs
+
+slice-aggregate-copy : tie.Need-slice-aggregate-copy
+slice-aggregate-copy c = search needs
+
+copy-requires-2 : tie.Need-copy-requires-2
+copy-requires-2 c κs = c .before .before .before .before .before .before .pre .1 .1 ∙ ap (λ (q : Piece). given (pieceOf q)) (c .before .before .enum-told .given .1)
+
+same-length : tie.Need-same-length
+same-length c = search needs
+
+returns : tie.Need-returns
+returns c =
+    c .before .before .copy .ensures ∙ text-whole _ _ _ (c .before .before .before .before .before .before .before .before .before .before .pre .0) (sym (ap pieceOf (c .before .before .before .before .before .before .p .given .1)) ∙ c .before .before .before .before .before .before .before .before .before .before .pre .1 .0 .is)
+
+same-length-2 : tie.Need-same-length-2
+same-length-2 c = search needs
+
+returns-2 : tie.Need-returns-2
+returns-2 c = c .before .before .copy2 .ensures ∙ text-part _ _ _ (sym (ap pieceOf (c .before .before .before .before .before .enum-told .given .1)) ∙ c .before .before .before .before .before .before .before .before .before .pre .1 .0 .is)
+
+pub put-spec : {M : Type 1} → statement M
+put-spec =
+    tie.close
+    (tie.spec
+    enum-known-p
+    add-copy
+    add-copy-2
+    sub-copy
+    part-copy-start
+    part-copy-end
+    copy-requires
+    enum-told
+    slice-aggregate-copy
+    copy-requires-2
+    same-length
+    returns
+    same-length-2
+    returns-2)

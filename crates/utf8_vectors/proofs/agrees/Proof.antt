@@ -1,0 +1,54 @@
+-- `utf8_vectors::agrees` meets its contract. Assumes nothing.
+use Prim.Native.Nat.{ℕ}
+use native.Mathlib.Omega.{arith}
+use mathlib.Core.Path.{_≡_, sym, _∙_}
+use borrow.Author.Needs.{needs}
+use lib.ListN.{length-take}
+use Rattle.utf8.proofs.Lent.{told-length}
+use Rattle.utf8_vectors.proofs.agrees.Statement.{statement}
+use Rattle.utf8_vectors.proofs.agrees.Tie as tie
+
+decode-lossy-requires : tie.Need-decode-lossy-requires
+decode-lossy-requires c κs = search needs
+
+enum-known-n : tie.Need-enum-known-n
+enum-known-n c = search needs
+
+slice-reshare-prefix-same : tie.Need-slice-reshare-prefix-same
+slice-reshare-prefix-same c = let t = told-length (c .before .before .before .before .before .decode-lossy .ensures) (c .before .n .given .1) in omega (arith, t .1, c .before .before .before .before .out .given)
+
+slice-aggregate-same : tie.Need-slice-aggregate-same
+slice-aggregate-same c = let t = told-length (c .before .before .before .before .before .before .decode-lossy .ensures) (c .before .before .n .given .1) in rw length-take (omega (arith, t .1, c .before .before .before .before .before .out .given))
+
+same-requires : tie.Need-same-requires
+same-requires c κs = search needs
+
+enum-told : tie.Need-enum-told
+enum-told c = search needs
+
+same-length : tie.Need-same-length
+same-length c = search needs
+
+returns : tie.Need-returns
+returns c e = let t = told-length (c .before .before .before .before .before .before .before .decode-lossy .ensures) (c .before .before .before .n .given .1) in sym (t .2) ∙ c .same .ensures .0 e
+
+same-length-2 : tie.Need-same-length-2
+same-length-2 c = search needs
+
+returns-2 : tie.Need-returns-2
+returns-2 c e = let z : _≡_ {A = ℕ} 0 1 = cc in absurd (omega arith)
+
+pub agrees-spec : {M : Type 1} → statement M
+agrees-spec =
+    tie.close
+    (tie.spec
+    decode-lossy-requires
+    enum-known-n
+    slice-reshare-prefix-same
+    slice-aggregate-same
+    same-requires
+    enum-told
+    same-length
+    returns
+    same-length-2
+    returns-2)

@@ -1,0 +1,136 @@
+// Decodes the bytes of each line of standard input, and compares with the text that the line says. A line has the bytes, a
+// space and the text, both in hexadecimal. tools/utf8_vectors.rs writes the list.
+use libc::STDIN_FILENO;
+use libc::STDOUT_FILENO;
+use utf8::Decoded;
+ghost use mathlib.Core.Path.{_≡_};
+ghost use mathlib.Core.Bool.{true};
+ghost use Prim.Native.Nat.{_+_, _*_, _<_, _≤_};
+ghost use lib.ListN.{length};
+ghost use Rattle.io.specs.Counts.{Counts};
+ghost use Rattle.lsm_format.specs.Utf8.{lossy};
+
+// The value of a hexadecimal digit; 16 for another byte.
+fn digit(b: u8) -> u8
+    ensures { λ r. ⌜ r ≤ 16 ⌝ }
+{
+    match b {
+        b'0'..=b'9' => b - b'0',
+        b'a'..=b'f' => b - b'a' + 10,
+        _ => 16,
+    }
+}
+
+// Reads pairs of digits from a place on, and says how many there were.
+fn field(text: &[u8], from: usize, bytes: &mut [u8]) -> usize
+    requires { ⌜ from ≤ length (now text) ⌝ }
+    ensures { λ r. ⌜ Counts r (now (bytes .exit)) ⌝ }
+    ensures { λ r. ⌜ from + 2 * r ≤ length (now (text .entry)) ⌝ }
+{
+    let mut at = from;
+    let mut n = 0;
+    while n < bytes.len() {
+        if text.len() - at < 2 {
+            return n;
+        }
+        let high = digit(text[at]);
+        let low = digit(text[at + 1]);
+        if high == 16 {
+            return n;
+        }
+        if low == 16 {
+            return n;
+        }
+        bytes[n] = high * 16 + low;
+        at += 2;
+        n += 1;
+    }
+    n
+}
+
+// Whether a byte stands at a place.
+fn holds(text: &[u8], at: usize, b: u8) -> bool
+    ensures { λ r. ⌜ (r ≡ true → at < length (now (text .entry))) ⌝ }
+{
+    if at < text.len() {
+        text[at] == b
+    } else {
+        false
+    }
+}
+
+// Whether the bytes decode to the text, into memory that has room for it.
+fn agrees(bytes: &[u8], text: &[u8], out: &mut [u8]) -> bool
+    ensures { λ r. ⌜ (r ≡ true → lossy (now (bytes .entry)) ≡ now (text .entry)) ⌝ }
+{
+    match utf8::decode_lossy(bytes, out) {
+        Decoded::Length(n) => check::same(&out[..n], text),
+        Decoded::Refused(_) => false,
+    }
+}
+
+// A line: whether it agrees, and where the next begins.
+struct Line {
+    agrees: bool,
+    next: usize,
+}
+
+// The line at a place. One that is not of the form counts as one that differs, and ends the list.
+fn line_at(text: &[u8], at: usize) -> Line
+    requires { ⌜ at < length (now text) ⌝ }
+    ensures { λ r. ⌜ (at < r .next) × (r .next ≤ length (now (text .entry))) ⌝ }
+{
+    let mut bytes = [0u8; 32];
+    let mut expected = [0u8; 96];
+    let mut out = [0u8; 96];
+    let broken = Line {
+        agrees: false,
+        next: text.len(),
+    };
+    let n = field(text, at, &mut bytes);
+    let gap = at + 2 * n;
+    if !holds(text, gap, b' ') {
+        return broken;
+    }
+    let m = field(text, gap + 1, &mut expected);
+    let end = gap + 1 + 2 * m;
+    if !holds(text, end, b'\n') {
+        return broken;
+    }
+    Line {
+        agrees: agrees(&bytes[..n], &expected[..m], &mut out[..m]),
+        next: end + 1,
+    }
+}
+
+struct Tally {
+    vectors: usize,
+    differ: usize,
+}
+
+fn compare(text: &[u8]) -> Tally
+    ensures { λ r. ⌜ (r .vectors ≤ length (now (text .entry))) × (r .differ ≤ r .vectors) ⌝ }
+{
+    let mut vectors: usize = 0;
+    let mut differ: usize = 0;
+    let mut at = 0;
+    while at < text.len() {
+        let l = line_at(text, at);
+        vectors += 1;
+        if !l.agrees {
+            differ += 1;
+        }
+        at = l.next;
+    }
+    Tally { vectors, differ }
+}
+
+fn main() {
+    let mut text = [0u8; 131072];
+    let n = io::read_full(STDIN_FILENO, &mut text);
+    let t = compare(&text[..n]);
+    io::print_decimal(STDOUT_FILENO, t.vectors as u64);
+    io::write_all(STDOUT_FILENO, b" vectors, ");
+    io::print_decimal(STDOUT_FILENO, t.differ as u64);
+    io::write_all(STDOUT_FILENO, b" differ\n");
+}
