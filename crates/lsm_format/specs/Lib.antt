@@ -10,4 +10,6 @@ pub mod Utf8
 pub mod Calibration
 pub mod CzInfo
 pub mod Channels
+pub mod Directory
+pub mod Open
 pub mod Code

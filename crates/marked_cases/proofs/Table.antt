@@ -1,20 +1,25 @@
 -- Document 01's marked cases (◆), one table about the definitions, each row with the document's words beside it. A row about
--- G stands here as far as the definitions reach: what is decided about opening and pictures joins as they are defined.
+-- G's pictures stands here as far as the definitions reach.
 use Prim.Native.Nat.{ℕ}
 use mathlib.Core.Path.{_≡_, refl}
 use mathlib.Core.List.{List, [], _∷_}
-use mathlib.Core.Option.{some}
+use mathlib.Core.Option.{none}
 use mathlib.Core.Bool.{false}
 use lib.IntN.{pos}
+use lib.ListN.{set}
 use lib.Ieee.{fin, binary32, ofBits, ofFields, odd}
-use Rattle.lsm_format.specs.Answer.{accepted, bind}
+use Rattle.lsm_format.specs.Answer.{accepted, refused, bind}
 use Rattle.lsm_format.specs.Words.{word}
-use Rattle.lsm_format.specs.Numbers.{little, partAt, numberAt, u16At, u32At, i32At, signed32}
+use Rattle.lsm_format.specs.Numbers.{little, partAt, numberAt, i32At, signed32}
 use Rattle.lsm_format.specs.Sizes.{u8, pictureSize, unlimitedSize}
 use Rattle.lsm_format.specs.Rectangle.{Dims, rectangle, isEmpty}
-use Rattle.lsm_format.specs.Scenes.{layout, scenes, pagesExpected, pageOf}
+use Rattle.lsm_format.specs.Scenes.{layout, scenes, pagesExpected}
+use Rattle.lsm_format.specs.Lent.{lend}
+use Rattle.lsm_format.specs.CzInfo.{czInfo, header, extents, voxels, channelBlock, shots}
+use Rattle.lsm_format.specs.Directory.{directory, entries, entry, scalar, scalarPlace, array, valuePlace, typeSize, integerSize}
+use Rattle.lsm_format.specs.Open.{Opened, openFile, read, tiffHeader, walk, chain, join, describeWalk, describe, valueAt}
 use Rattle.lsm_format.specs.Utf8.{lossy, lossyBy, piece}
-use Rattle.lsm_format.specs.Calibration.{figure, tensAbove, tensBelow}
+use Rattle.lsm_format.specs.Calibration.{uncalibrated, figure, tensAbove, tensBelow}
 
 -- ---- the figure of a note
 
@@ -80,33 +85,57 @@ G =
 abbrev G-dims : Dims
 G-dims = record { t = 1; c = 1; z = 1; y = 1; x = 2 }
 
--- "◆G opens": the TIFF magic, the first directory's place and the CZ magic, hex 0400494C, are where they must be
-G-magic : u16At little G 2 ≡ accepted 42
-unfolding numberAt partAt bind
-G-magic = refl
+-- what opening G gives
+abbrev G-opened : Opened
+G-opened =
+    record {
+      description =
+          record {
+            order = little;
+            kind = u8;
+            dims = G-dims;
+            layout = record { scenes = 1; depth = 1 };
+            stripsPerChannel = 1;
+            calibration = uncalibrated;
+            channelBlock = none;
+          };
+      visited = 1;
+      table = 116 ∷ 2 ∷ [];
+    }
 
-G-directory : u32At little G 4 ≡ accepted 8
-unfolding numberAt partAt bind
-G-directory = refl
+-- G with another number at a place: the CZ block's size at 92, its Z at 104 and T at 112, the CZ entry's count at 74, the strip's byte
+-- count at 66
+abbrev G-with : ℕ → ℕ → List ℕ
+G-with place n = set G place n
 
-G-cz-magic : i32At little G 88 ≡ accepted (pos 0x0400494C)
-unfolding i32At signed32 numberAt partAt bind
-G-cz-magic = refl
+-- G's answer with another strip byte count
+abbrev G-strip : ℕ → Opened
+G-strip n = record { description = G-opened .description; visited = 1; table = 116 ∷ n ∷ [] }
 
--- "◆G opens": one scene of one page, since "below 272 both are 1", and the page of its picture
-G-layout : layout (pos 1) (pos 1) 1 ≡ accepted (record { scenes = 1; depth = 1 })
-unfolding layout scenes bind
-G-layout = refl
+-- what opening answers, with room for two words in the strip table
+opening :
+    -- "◆G opens."
+    (openFile G 2 ≡ accepted G-opened)
+    -- "◆Size 0 opens."
+    × (openFile (G-with 92 0) 2 ≡ accepted G-opened)
+    -- "◆Size 27 is 2."
+    × (openFile (G-with 92 27) 2 ≡ refused (2 ∷ []))
+    -- "◆Declared 27 is 2."
+    × (openFile (G-with 74 27) 2 ≡ refused (2 ∷ []))
+    -- "◆Z 0 opens."
+    × (openFile (G-with 104 0) 2 ≡ accepted G-opened)
+    -- "◆T 2 is 3."
+    × (openFile (G-with 112 2) 2 ≡ refused (3 ∷ []))
+    -- "◆Strip byte count 3: opens"
+    × (openFile (G-with 66 3) 2 ≡ accepted (G-strip 3))
+    -- "◆Strip byte count 1: opens"
+    × (openFile (G-with 66 1) 2 ≡ accepted (G-strip 1))
+    -- the strip table's length comes last: 7 with the words needed
+    × (openFile G 1 ≡ refused (7 ∷ 2 ∷ []))
+unfolding openFile read tiffHeader walk chain join directory entries entry scalar scalarPlace array valuePlace typeSize integerSize describeWalk describe valueAt czInfo header extents voxels channelBlock shots i32At signed32 numberAt partAt layout scenes pagesExpected word lend bind
+opening = (refl, refl, refl, refl, refl, refl, refl, refl, refl)
 
-G-pages : pagesExpected (record { scenes = 1; depth = 1 }) ≡ accepted 1
-unfolding pagesExpected word
-G-pages = refl
-
-G-page : pageOf (record { scenes = 1; depth = 1 }) 0 0 ≡ some 0
-unfolding pageOf word
-G-page = refl
-
--- "◆Strip byte count 3: opens, plane is 2", "◆Strip byte count 1: opens, plane is 2": the picture has two bytes
+-- "plane is 2": the picture has two bytes, and a strip of 3 or 1 is not that
 G-size : pictureSize 2 1 u8 ≡ accepted 2
 unfolding pictureSize unlimitedSize word bind
 G-size = refl

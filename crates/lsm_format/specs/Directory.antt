@@ -1,0 +1,246 @@
+-- One image file directory (lsm_reader.rs, parse_ifd; TIFF 6.0, section 2, "Image File Directory").
+use Prim.Native.Nat.{ℕ, zero, suc, _+_, _*_, _/_, _%_}
+use mathlib.Core.Bool.{Bool, true, false, not, _&&_, _||_, cond}
+use mathlib.Core.Option.{Option, none, some}
+use mathlib.Core.List.{List, [], _∷_}
+use lib.Dec.{leb, ltb, eqb}
+use lib.ListN.{length}
+use Rattle.lsm_format.specs.Answer.{Result, accepted, bind, need, given, parse, decode}
+use Rattle.lsm_format.specs.Ranges.{Ranges, none as nothing, at, both, over, inFile}
+use Rattle.lsm_format.specs.Numbers.{Order, numberAt, u16At, u32At}
+
+-- ---- types
+
+abbrev pub among : ℕ → List ℕ → Bool
+among n [] = false
+among n (m ∷ ms) = eqb n m || among n ms
+
+-- TIFF 6.0, "Types": 1 BYTE, 2 ASCII, 6 SBYTE, 7 UNDEFINED; 3 SHORT, 8 SSHORT; 4 LONG, 9 SLONG, 11 FLOAT; 5 RATIONAL, 10 SRATIONAL,
+-- 12 DOUBLE. A type outside 1 to 12 has no size.
+unfoldable pub typeSize : ℕ → ℕ
+typeSize t =
+    cond (among t (1 ∷ 2 ∷ 6 ∷ 7 ∷ [])) 1
+    (cond (among t (3 ∷ 8 ∷ [])) 2
+    (cond (among t (4 ∷ 9 ∷ 11 ∷ [])) 4
+    (cond (among t (5 ∷ 10 ∷ 12 ∷ [])) 8 0)))
+
+-- The bytes of a type that is read as a number: "a value of a type other than 1, 3, 4, 6 to 9 or 11 [..] is Decode"; "Types 6, 8, 9
+-- and 11 are read as unsigned bits".
+unfoldable pub integerSize : ℕ → Option ℕ
+integerSize t =
+    cond (among t (1 ∷ 6 ∷ 7 ∷ [])) (some 1)
+    (cond (among t (3 ∷ 8 ∷ [])) (some 2)
+    (cond (among t (4 ∷ 9 ∷ 11 ∷ [])) (some 4) none))
+
+-- ---- values
+
+-- TIFF 6.0, "IFD Entry", bytes 8-11: the values themselves if they fit into 4 bytes, otherwise their offset.
+unfoldable pub valuePlace : Order → List ℕ → ℕ → ℕ → ℕ → Result ℕ
+valuePlace o f size count place = elim (leb (size * count) 4) [ true ↦ accepted place | false ↦ u32At o f place ]
+
+-- Where the first value of an entry stands, and how many bytes it has: "a value of [another] type [..], a scalar with count 0 [..] is
+-- Decode". The type and the count come before any out-of-line read.
+unfoldable pub scalarPlace : Order → List ℕ → ℕ → ℕ → ℕ → Result (ℕ × ℕ)
+scalarPlace o f type count place =
+    bind (need decode (not (eqb (typeSize type) 0) && not (eqb count 0))) (λ _.
+    bind (valuePlace o f (typeSize type) count place) (λ p.
+    bind (given decode (integerSize type)) (λ size. accepted (p, size))))
+
+-- The first value: "of several BitsPerSample values only the first counts".
+unfoldable pub scalar : Order → List ℕ → ℕ → ℕ → ℕ → Result ℕ
+scalar o f type count place = bind (scalarPlace o f type count place) (λ v. numberAt (v .1) o f (v .0))
+
+-- A strip array: so many numbers of so many bytes, one after another from a place on.
+pub record Array : Type 0 where
+  pub place : ℕ
+  pub size : ℕ
+  pub count : ℕ
+
+abbrev pub noArray : Array
+noArray = record { place = 0; size = 0; count = 0 }
+
+-- Its values are in the file, or 1; "a strip array with count 0 is empty".
+abbrev pub arrayBy : ℕ → List ℕ → ℕ → ℕ → Result Array
+arrayBy zero f type p = accepted noArray
+arrayBy (suc n) f type p =
+    bind (given decode (integerSize type)) (λ size.
+    bind (need parse (leb (p + size * suc n) (length f))) (λ _. accepted (record { place = p; size = size; count = suc n })))
+
+-- "a strip array of a type outside 1 to 12 [..] is Decode"; "100,000 strips pass, 100,001 are Decode"
+unfoldable pub array : Order → List ℕ → ℕ → ℕ → ℕ → Result Array
+array o f type count place =
+    bind (need decode (not (eqb (typeSize type) 0))) (λ _.
+    bind (valuePlace o f (typeSize type) count place) (λ p.
+    bind (need decode (leb count 100000)) (λ _. arrayBy count f type p)))
+
+-- ---- a directory
+
+-- What a directory states; of the CZ entry, the block's offset and its declared bytes.
+pub record Directory : Type 0 where
+  pub reduced : Bool
+  pub width : ℕ
+  pub height : ℕ
+  pub samples : ℕ
+  pub bits : ℕ
+  pub format : ℕ
+  pub planar : Bool
+  pub compression : ℕ
+  pub offsets : Array
+  pub counts : Array
+  pub cz : Option (ℕ × ℕ)
+
+-- "Absent, width and height are 0, strip arrays empty, NewSubfileType 0, and SamplesPerPixel, BitsPerSample, SampleFormat, Compression
+-- and PlanarConfiguration 1."
+abbrev pub plain : Directory
+plain =
+    record {
+      reduced = false;
+      width = 0;
+      height = 0;
+      samples = 1;
+      bits = 1;
+      format = 1;
+      planar = false;
+      compression = 1;
+      offsets = noArray;
+      counts = noArray;
+      cz = none;
+    }
+
+-- ---- entries
+
+-- The tags that are used.
+pub data Tag : Type 0 where
+  newSubfileType imageWidth imageLength bitsPerSample compression stripOffsets samplesPerPixel : Tag
+  stripByteCounts planarConfiguration sampleFormat czLsmInfo other : Tag
+
+abbrev pub tagOf : ℕ → Tag
+tagOf t =
+    cond (eqb t 254) newSubfileType
+    (cond (eqb t 256) imageWidth
+    (cond (eqb t 257) imageLength
+    (cond (eqb t 258) bitsPerSample
+    (cond (eqb t 259) compression
+    (cond (eqb t 273) stripOffsets
+    (cond (eqb t 277) samplesPerPixel
+    (cond (eqb t 279) stripByteCounts
+    (cond (eqb t 284) planarConfiguration
+    (cond (eqb t 339) sampleFormat
+    (cond (eqb t 34412) czLsmInfo other))))))))))
+
+-- "NewSubfileType with bit 0 or 2 set marks a reduced page"
+abbrev pub isReduced : ℕ → Bool
+isReduced v = eqb (v % 2) 1 || eqb (v / 4 % 2) 1
+
+-- "SamplesPerPixel, BitsPerSample, SampleFormat or Compression above 65,535, is Decode"
+abbrev pub short : ℕ → Result ℕ
+short v = bind (need decode (leb v 65535)) (λ _. accepted v)
+
+-- The directory with a scalar's value. PlanarConfiguration counts only as being 2 or not.
+abbrev pub put : Tag → ℕ → Directory → Directory
+put newSubfileType v d = record { reduced = isReduced v; width = d .width; height = d .height; samples = d .samples; bits = d .bits; format = d .format; planar = d .planar; compression = d .compression; offsets = d .offsets; counts = d .counts; cz = d .cz }
+put imageWidth v d = record { reduced = d .reduced; width = v; height = d .height; samples = d .samples; bits = d .bits; format = d .format; planar = d .planar; compression = d .compression; offsets = d .offsets; counts = d .counts; cz = d .cz }
+put imageLength v d = record { reduced = d .reduced; width = d .width; height = v; samples = d .samples; bits = d .bits; format = d .format; planar = d .planar; compression = d .compression; offsets = d .offsets; counts = d .counts; cz = d .cz }
+put bitsPerSample v d = record { reduced = d .reduced; width = d .width; height = d .height; samples = d .samples; bits = v; format = d .format; planar = d .planar; compression = d .compression; offsets = d .offsets; counts = d .counts; cz = d .cz }
+put compression v d = record { reduced = d .reduced; width = d .width; height = d .height; samples = d .samples; bits = d .bits; format = d .format; planar = d .planar; compression = v; offsets = d .offsets; counts = d .counts; cz = d .cz }
+put samplesPerPixel v d = record { reduced = d .reduced; width = d .width; height = d .height; samples = v; bits = d .bits; format = d .format; planar = d .planar; compression = d .compression; offsets = d .offsets; counts = d .counts; cz = d .cz }
+put planarConfiguration v d = record { reduced = d .reduced; width = d .width; height = d .height; samples = d .samples; bits = d .bits; format = d .format; planar = eqb v 2; compression = d .compression; offsets = d .offsets; counts = d .counts; cz = d .cz }
+put sampleFormat v d = record { reduced = d .reduced; width = d .width; height = d .height; samples = d .samples; bits = d .bits; format = v; planar = d .planar; compression = d .compression; offsets = d .offsets; counts = d .counts; cz = d .cz }
+put stripOffsets v d = d
+put stripByteCounts v d = d
+put czLsmInfo v d = d
+put other v d = d
+
+abbrev pub putOffsets : Array → Directory → Directory
+putOffsets a d = record { reduced = d .reduced; width = d .width; height = d .height; samples = d .samples; bits = d .bits; format = d .format; planar = d .planar; compression = d .compression; offsets = a; counts = d .counts; cz = d .cz }
+
+abbrev pub putCounts : Array → Directory → Directory
+putCounts a d = record { reduced = d .reduced; width = d .width; height = d .height; samples = d .samples; bits = d .bits; format = d .format; planar = d .planar; compression = d .compression; offsets = d .offsets; counts = a; cz = d .cz }
+
+abbrev pub putCz : ℕ → ℕ → Directory → Directory
+putCz offset declared d = record { reduced = d .reduced; width = d .width; height = d .height; samples = d .samples; bits = d .bits; format = d .format; planar = d .planar; compression = d .compression; offsets = d .offsets; counts = d .counts; cz = some (offset, declared) }
+
+-- An entry: its tag, type and count, and the place of its value or offset. "Of a repeated tag the last wins."
+abbrev pub entryBy : Tag → Order → List ℕ → ℕ → ℕ → ℕ → Directory → Result Directory
+entryBy newSubfileType o f type count place d = bind (scalar o f type count place) (λ v. accepted (put newSubfileType v d))
+entryBy imageWidth o f type count place d = bind (scalar o f type count place) (λ v. accepted (put imageWidth v d))
+entryBy imageLength o f type count place d = bind (scalar o f type count place) (λ v. accepted (put imageLength v d))
+entryBy bitsPerSample o f type count place d =
+    bind (scalar o f type count place) (λ v. bind (short v) (λ n. accepted (put bitsPerSample n d)))
+entryBy compression o f type count place d =
+    bind (scalar o f type count place) (λ v. bind (short v) (λ n. accepted (put compression n d)))
+entryBy samplesPerPixel o f type count place d =
+    bind (scalar o f type count place) (λ v. bind (short v) (λ n. accepted (put samplesPerPixel n d)))
+entryBy planarConfiguration o f type count place d =
+    bind (scalar o f type count place) (λ v. accepted (put planarConfiguration v d))
+entryBy sampleFormat o f type count place d =
+    bind (scalar o f type count place) (λ v. bind (short v) (λ n. accepted (put sampleFormat n d)))
+entryBy stripOffsets o f type count place d = bind (array o f type count place) (λ a. accepted (putOffsets a d))
+entryBy stripByteCounts o f type count place d = bind (array o f type count place) (λ a. accepted (putCounts a d))
+-- "A CZ entry (tag 34412) of at most 4 bytes [..] is Decode", whatever its type.
+entryBy czLsmInfo o f type count place d =
+    bind (need decode (ltb 4 (typeSize type * count))) (λ _.
+    bind (u32At o f place) (λ offset. accepted (putCz offset (typeSize type * count) d)))
+entryBy other o f type count place d = accepted d
+
+-- TIFF 6.0, "IFD Entry": bytes 0-1 the tag, 2-3 the type, 4-7 the count, 8-11 the value or its offset.
+unfoldable pub entry : Order → List ℕ → ℕ → Directory → Result Directory
+entry o f e d =
+    bind (u16At o f e) (λ tag.
+    bind (u16At o f (e + 2)) (λ type.
+    bind (u32At o f (e + 4)) (λ count. entryBy (tagOf tag) o f type count (e + 8) d)))
+
+-- The entries from the i-th on, n of them; those of a directory start at base.
+unfoldable pub entries : ℕ → Order → List ℕ → ℕ → ℕ → Directory → Result Directory
+entries zero o f base i d = accepted d
+entries (suc n) o f base i d = bind (entry o f (base + 12 * i) d) (λ e. entries n o f base (i + 1) e)
+
+-- A directory and where the next one stands; 0 where there is none. TIFF 6.0: "a 2-byte count of the number of directory entries,
+-- followed by a sequence of 12-byte field entries, followed by a 4-byte offset of the next IFD". "per directory, the next pointer,
+-- the entries in turn, equal array lengths"
+unfoldable pub directory : Order → List ℕ → ℕ → Result (Directory × ℕ)
+directory o f place =
+    bind (u16At o f place) (λ n.
+    bind (u32At o f (place + 2 + 12 * n)) (λ next.
+    bind (entries n o f (place + 2) 0 plain) (λ d.
+    bind (need decode (eqb (d .offsets .count) (d .counts .count))) (λ _. accepted (d, next)))))
+
+-- ---- what is read
+
+-- "out of line, the first value of each entry of a scalar tag the reader uses"
+abbrev pub scalarRanges : Order → List ℕ → ℕ → ℕ → ℕ → Ranges
+scalarRanges o f type count place = over (scalarPlace o f type count place) (λ v. inFile f (v .0) (v .1))
+
+-- "and all values of strip arrays"
+abbrev pub arrayRanges : Order → List ℕ → ℕ → ℕ → ℕ → Ranges
+arrayRanges o f type count place = over (array o f type count place) (λ a. at (a .place) (a .size * a .count))
+
+abbrev pub entryByRanges : Tag → Order → List ℕ → ℕ → ℕ → ℕ → Ranges
+entryByRanges newSubfileType o f type count place = scalarRanges o f type count place
+entryByRanges imageWidth o f type count place = scalarRanges o f type count place
+entryByRanges imageLength o f type count place = scalarRanges o f type count place
+entryByRanges bitsPerSample o f type count place = scalarRanges o f type count place
+entryByRanges compression o f type count place = scalarRanges o f type count place
+entryByRanges samplesPerPixel o f type count place = scalarRanges o f type count place
+entryByRanges planarConfiguration o f type count place = scalarRanges o f type count place
+entryByRanges sampleFormat o f type count place = scalarRanges o f type count place
+entryByRanges stripOffsets o f type count place = arrayRanges o f type count place
+entryByRanges stripByteCounts o f type count place = arrayRanges o f type count place
+entryByRanges czLsmInfo o f type count place = nothing
+entryByRanges other o f type count place = nothing
+
+unfoldable pub entryRanges : Order → List ℕ → ℕ → Ranges
+entryRanges o f e =
+    over (u16At o f e) (λ tag.
+    over (u16At o f (e + 2)) (λ type.
+    over (u32At o f (e + 4)) (λ count. entryByRanges (tagOf tag) o f type count (e + 8))))
+
+unfoldable pub entriesRanges : ℕ → Order → List ℕ → ℕ → ℕ → Ranges
+entriesRanges zero o f base i = nothing
+entriesRanges (suc n) o f base i = both (entryRanges o f (base + 12 * i)) (entriesRanges n o f base (i + 1))
+
+-- "each visited directory, from its count to the last byte of its next pointer"
+unfoldable pub directoryRanges : Order → List ℕ → ℕ → Ranges
+directoryRanges o f place =
+    both (inFile f place 2)
+    (over (u16At o f place) (λ n. both (inFile f place (6 + 12 * n)) (entriesRanges n o f (place + 2) 0)))

@@ -1,0 +1,220 @@
+-- Opening a file (lsm_reader.rs, read_tiff_header, parse_lsm, open; io.rs).
+use Prim.Native.Nat.{ℕ, zero, suc, _+_, _*_, _/_, _%_, max}
+use mathlib.Core.Bool.{Bool, true, false, not, _&&_, _||_, Bool·beq, cond}
+use mathlib.Core.Option.{Option, none, some}
+use mathlib.Core.List.{List, [], _∷_, _++_}
+use lib.Dec.{leb, eqb}
+use lib.ListN.{length, getD, take, drop}
+use Rattle.lsm_format.specs.Answer.{Result, accepted, refused, bind, need, given, parse, decode, unsupported, oversizedAllocation}
+use Rattle.lsm_format.specs.Ranges.{Ranges, none as nothing, both, over, inFile}
+use Rattle.lsm_format.specs.Numbers.{Order, little, big, valueOf, u16At, u32At}
+use Rattle.lsm_format.specs.Sizes.{Kind, u8, u16, i16, f32}
+use Rattle.lsm_format.specs.Rectangle.{Dims}
+use Rattle.lsm_format.specs.Scenes.{Layout, layout, pagesExpected}
+use Rattle.lsm_format.specs.Lent.{lend, filled}
+use Rattle.lsm_format.specs.Calibration.{Calibration}
+use Rattle.lsm_format.specs.CzInfo.{CzInfo, czInfo, czRanges}
+use Rattle.lsm_format.specs.Directory.{Array, Directory, directory, directoryRanges}
+
+-- ---- the header
+
+-- "only the 68,719,476,736-byte file limit" of io.rs
+abbrev pub fileLimit : ℕ
+fileLimit = 68719476736
+
+-- TIFF 6.0, "Image File Header", bytes 0-1: "II" (hex 49 49) or "MM" (4D 4D); "a wrong order mark [..] is Parse"
+abbrev pub orderMark : ℕ → ℕ → Result Order
+orderMark a b =
+    cond (eqb a 0x49 && eqb b 0x49) (accepted little) (cond (eqb a 0x4D && eqb b 0x4D) (accepted big) (refused parse))
+
+-- "Under 8 bytes, a wrong order mark or magic other than 42 is Parse."
+unfoldable pub tiffHeader : List ℕ → Result Order
+tiffHeader f =
+    bind (need parse (leb 8 (length f))) (λ _.
+    bind (orderMark (getD f 0 0) (getD f 1 0)) (λ o.
+    bind (u16At o f 2) (λ magic. bind (need parse (eqb magic 42)) (λ _. accepted o))))
+
+-- ---- the chain of directories
+
+-- The two strip arrays of a full page.
+pub record Page : Type 0 where
+  pub offsets : Array
+  pub counts : Array
+
+-- What the directories visited so far tell: how many they are; the first full page; the full pages; the CZ entry.
+pub record Walk : Type 0 where
+  pub visited : ℕ
+  pub first : Option Directory
+  pub pages : List Page
+  pub cz : Option (ℕ × ℕ)
+
+abbrev pub start : Walk
+start = record { visited = 0; first = none; pages = []; cz = none }
+
+-- "agreement with the first full page (geometry 3 [..])": as stored, PlanarConfiguration only as being 2 or not
+abbrev pub sameGeometry : Directory → Directory → Bool
+sameGeometry a b =
+    eqb (a .width) (b .width)
+    && eqb (a .height) (b .height)
+    && eqb (a .samples) (b .samples)
+    && eqb (a .bits) (b .bits)
+    && eqb (a .format) (b .format)
+    && eqb (a .compression) (b .compression)
+    && Bool·beq (a .planar) (b .planar)
+
+-- "the first directory that has one wins"
+abbrev pub firstOf : Option (ℕ × ℕ) → Option (ℕ × ℕ) → Option (ℕ × ℕ)
+firstOf none later = later
+firstOf (some cz) later = some cz
+
+abbrev pub arraysOf : Directory → Page
+arraysOf d = record { offsets = d .offsets; counts = d .counts }
+
+-- A directory joins the walk. A reduced page "gives no picture but may supply the CZ entry"; a full page agrees with the first:
+-- "geometry 3, then strip count 2".
+abbrev pub joinBy : Bool → Option Directory → Walk → Directory → Result Walk
+joinBy true first w d =
+    accepted (record { visited = w .visited + 1; first = w .first; pages = w .pages; cz = firstOf (w .cz) (d .cz) })
+joinBy false none w d =
+    accepted (record { visited = w .visited + 1; first = some d; pages = w .pages ++ arraysOf d ∷ []; cz = firstOf (w .cz) (d .cz) })
+joinBy false (some p) w d =
+    bind (need unsupported (sameGeometry d p)) (λ _.
+    bind (need decode (eqb (d .offsets .count) (p .offsets .count))) (λ _.
+    accepted (record {
+      visited = w .visited + 1;
+      first = some p;
+      pages = w .pages ++ arraysOf d ∷ [];
+      cz = firstOf (w .cz) (d .cz);
+    })))
+
+unfoldable pub join : Walk → Directory → Result Walk
+join w d = joinBy (d .reduced) (w .first) w d
+
+-- The chain from a place on, with at most so many directories more. "The 1,000,001st visited directory is Parse; exactly 1,000,000
+-- pass."
+unfoldable pub chain : ℕ → Bool → Order → List ℕ → ℕ → Walk → Result Walk
+chain zero true o f place w = accepted w
+chain zero false o f place w = refused parse
+chain (suc n) true o f place w = accepted w
+chain (suc n) false o f place w =
+    bind (directory o f place) (λ d. bind (join w (d .0)) (λ v. chain n (eqb (d .1) 0) o f (d .1) v))
+
+unfoldable pub walk : Order → List ℕ → Result Walk
+walk o f = bind (u32At o f 4) (λ place. chain 1000000 (eqb place 0) o f place start)
+
+-- ---- the description
+
+pub record Description : Type 0 where
+  pub order : Order
+  pub kind : Kind
+  pub dims : Dims
+  pub layout : Layout
+  pub stripsPerChannel : ℕ
+  pub calibration : Calibration
+  pub channelBlock : Option ℕ
+
+-- "SampleFormat 1 with 8 bits is U8, 1 with 16 U16, 2 with 16 I16, 3 with 32 F32; any other pair is Unsupported."
+abbrev pub sampleKind : ℕ → ℕ → Result Kind
+sampleKind format bits =
+    cond (eqb format 1 && eqb bits 8) (accepted u8)
+    (cond (eqb format 1 && eqb bits 16) (accepted u16)
+    (cond (eqb format 2 && eqb bits 16) (accepted i16)
+    (cond (eqb format 3 && eqb bits 32) (accepted f32) (refused unsupported))))
+
+-- The checks of the walk's first full page against the CZ block, from "XY" to "page count" of "Order of checks".
+-- "SamplesPerPixel 0 counts as 1 channel"; Z and T of 0 count as 1.
+unfoldable pub describe : Order → Kind → Directory → ℕ → CzInfo → Result Description
+describe o k p pages i =
+    bind (need decode (eqb (i .dimX) (p .width) && eqb (i .dimY) (p .height))) (λ _.
+    bind (need decode (eqb (i .dimChannels) (max 1 (p .samples)))) (λ _.
+    bind (need unsupported (leb (i .dimTime) 1)) (λ _.
+    bind (need unsupported (leb (max 1 (p .samples)) 1 || p .planar)) (λ _.
+    bind (need decode (not (eqb (p .offsets .count) 0) && eqb (p .offsets .count % max 1 (p .samples)) 0)) (λ _.
+    bind (layout (i .dimP) (i .dimM) (max 1 (i .dimZ))) (λ l.
+    bind (pagesExpected l) (λ expected.
+    bind (need decode (eqb pages expected)) (λ _.
+    accepted (record {
+      order = o;
+      kind = k;
+      dims = record { t = 1; c = max 1 (p .samples); z = max 1 (i .dimZ); y = p .height; x = p .width };
+      layout = l;
+      stripsPerChannel = p .offsets .count / max 1 (p .samples);
+      calibration = i .calibration;
+      channelBlock = i .channelColors;
+    })))))))))
+
+-- "then pages present, compression 1, sample type, CZ entry present, CZ block, XY, [..]"
+unfoldable pub describeWalk : Order → List ℕ → Walk → Result Description
+describeWalk o f w =
+    bind (given decode (w .first)) (λ p.
+    bind (need unsupported (eqb (p .compression) 1)) (λ _.
+    bind (sampleKind (p .format) (p .bits)) (λ k.
+    bind (given decode (w .cz)) (λ cz.
+    bind (czInfo o f (cz .0) (cz .1)) (λ i. describe o k p (length (w .pages)) i)))))
+
+-- ---- the strip table
+
+-- The i-th value of a strip array.
+unfoldable pub valueAt : Order → List ℕ → Array → ℕ → ℕ
+valueAt o f a i = valueOf o (take (a .size) (drop (a .place + a .size * i) f))
+
+-- "The table takes 2 × pages × strips words of 64 bits: page by page, strip by strip, offset then count": the n strips of a page
+-- from the i-th on.
+abbrev pub stripWords : ℕ → Order → List ℕ → Page → ℕ → List ℕ
+stripWords zero o f p i = []
+stripWords (suc n) o f p i = valueAt o f (p .offsets) i ∷ valueAt o f (p .counts) i ∷ stripWords n o f p (i + 1)
+
+abbrev pub tableWords : Order → List ℕ → List Page → List ℕ
+tableWords o f [] = []
+tableWords o f (p ∷ ps) = stripWords (p .offsets .count) o f p 0 ++ tableWords o f ps
+
+-- ---- open
+
+-- What opening gives: the description, and "the count of directories visited (added)".
+pub record Opened : Type 0 where
+  pub description : Description
+  pub visited : ℕ
+  pub table : List ℕ
+
+-- "file limit; header; [the chain; the checks]": all but the strip table's room.
+unfoldable pub read : List ℕ → Result Opened
+read f =
+    bind (need (oversizedAllocation (length f) fileLimit) (leb (length f) fileLimit)) (λ _.
+    bind (tiffHeader f) (λ o.
+    bind (walk o f) (λ w.
+    bind (describeWalk o f w) (λ d.
+    accepted (record { description = d; visited = w .visited; table = tableWords o f (w .pages) })))))
+
+-- "strip table length last": 7 with the words needed.
+unfoldable pub openFile : List ℕ → ℕ → Result Opened
+openFile f room = bind (read f) (λ r. bind (lend (length (r .table)) room) (λ _. accepted r))
+
+-- What the strip table holds afterwards.
+abbrev pub tableBy : Result Opened → List ℕ → List ℕ
+tableBy (accepted r) lent = filled (r .table) lent
+tableBy (refused row) lent = lent
+
+unfoldable pub openMemory : List ℕ → List ℕ → List ℕ
+openMemory f lent = tableBy (read f) lent
+
+-- ---- what is read
+
+unfoldable pub chainRanges : ℕ → Bool → Order → List ℕ → ℕ → Walk → Ranges
+chainRanges zero true o f place w = nothing
+chainRanges zero false o f place w = nothing
+chainRanges (suc n) true o f place w = nothing
+chainRanges (suc n) false o f place w =
+    both (directoryRanges o f place)
+    (over (directory o f place) (λ d. over (join w (d .0)) (λ v. chainRanges n (eqb (d .1) 0) o f (d .1) v)))
+
+abbrev pub czEntryRanges : Order → List ℕ → Option (ℕ × ℕ) → Ranges
+czEntryRanges o f none = nothing
+czEntryRanges o f (some cz) = czRanges o f (cz .0) (cz .1)
+
+-- "The 8-byte header; each visited directory [..]; in the CZ block used [..]". Strip arrays are among what their entries read.
+unfoldable pub openRanges : List ℕ → Ranges
+openRanges f =
+    both (inFile f 0 8)
+    (over (tiffHeader f) (λ o.
+    over (u32At o f 4) (λ place.
+    both (chainRanges 1000000 (eqb place 0) o f place start) (over (walk o f) (λ w. czEntryRanges o f (w .cz))))))
