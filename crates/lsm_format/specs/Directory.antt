@@ -5,8 +5,8 @@ use mathlib.Core.Option.{Option, none, some}
 use mathlib.Core.List.{List, [], _∷_}
 use lib.Dec.{leb, ltb, eqb}
 use lib.ListN.{length}
-use Rattle.lsm_format.specs.Answer.{Result, accepted, bind, need, given, parse, decode}
-use Rattle.lsm_format.specs.Ranges.{Ranges, none as nothing, at, both, over, inFile}
+use Rattle.lsm_format.specs.Answer.{Result, accepted, bind, need, given, decode}
+use Rattle.lsm_format.specs.Ranges.{Ranges, none as nothing, both, over, inFile}
 use Rattle.lsm_format.specs.Numbers.{Order, numberAt, u16At, u32At}
 
 -- ---- types
@@ -35,8 +35,12 @@ integerSize t =
 -- ---- values
 
 -- TIFF 6.0, "IFD Entry", bytes 8-11: the values themselves if they fit into 4 bytes, otherwise their offset.
+abbrev pub placeBy : Bool → Order → List ℕ → ℕ → Result ℕ
+placeBy true o f place = accepted place
+placeBy false o f place = u32At o f place
+
 unfoldable pub valuePlace : Order → List ℕ → ℕ → ℕ → ℕ → Result ℕ
-valuePlace o f size count place = elim (leb (size * count) 4) [ true ↦ accepted place | false ↦ u32At o f place ]
+valuePlace o f size count place = placeBy (leb (size * count) 4) o f place
 
 -- Where the first value of an entry stands, and how many bytes it has: "a value of [another] type [..], a scalar with count 0 [..] is
 -- Decode". The type and the count come before any out-of-line read.
@@ -50,28 +54,26 @@ scalarPlace o f type count place =
 unfoldable pub scalar : Order → List ℕ → ℕ → ℕ → ℕ → Result ℕ
 scalar o f type count place = bind (scalarPlace o f type count place) (λ v. numberAt (v .1) o f (v .0))
 
--- A strip array: so many numbers of so many bytes, one after another from a place on.
-pub record Array : Type 0 where
-  pub place : ℕ
-  pub size : ℕ
-  pub count : ℕ
+-- Where the values of a strip array stand, and how many bytes each has: "a strip array of a type outside 1 to 12 [..] is Decode";
+-- "100,000 strips pass, 100,001 are Decode"; "a strip array with count 0 is empty", whatever its type.
+abbrev pub elementSize : ℕ → ℕ → Result ℕ
+elementSize zero type = accepted 0
+elementSize (suc n) type = given decode (integerSize type)
 
-abbrev pub noArray : Array
-noArray = record { place = 0; size = 0; count = 0 }
-
--- Its values are in the file, or 1; "a strip array with count 0 is empty".
-abbrev pub arrayBy : ℕ → List ℕ → ℕ → ℕ → Result Array
-arrayBy zero f type p = accepted noArray
-arrayBy (suc n) f type p =
-    bind (given decode (integerSize type)) (λ size.
-    bind (need parse (leb (p + size * suc n) (length f))) (λ _. accepted (record { place = p; size = size; count = suc n })))
-
--- "a strip array of a type outside 1 to 12 [..] is Decode"; "100,000 strips pass, 100,001 are Decode"
-unfoldable pub array : Order → List ℕ → ℕ → ℕ → ℕ → Result Array
-array o f type count place =
+unfoldable pub arrayPlace : Order → List ℕ → ℕ → ℕ → ℕ → Result (ℕ × ℕ)
+arrayPlace o f type count place =
     bind (need decode (not (eqb (typeSize type) 0))) (λ _.
     bind (valuePlace o f (typeSize type) count place) (λ p.
-    bind (need decode (leb count 100000)) (λ _. arrayBy count f type p)))
+    bind (need decode (leb count 100000)) (λ _. bind (elementSize count type) (λ size. accepted (p, size)))))
+
+-- So many numbers of so many bytes, one after another from a place on.
+unfoldable pub numbers : ℕ → ℕ → Order → List ℕ → ℕ → Result (List ℕ)
+numbers zero size o f p = accepted []
+numbers (suc n) size o f p = bind (numberAt size o f p) (λ v. bind (numbers n size o f (p + size)) (λ vs. accepted (v ∷ vs)))
+
+-- The values of a strip array.
+unfoldable pub array : Order → List ℕ → ℕ → ℕ → ℕ → Result (List ℕ)
+array o f type count place = bind (arrayPlace o f type count place) (λ v. numbers count (v .1) o f (v .0))
 
 -- ---- a directory
 
@@ -85,8 +87,8 @@ pub record Directory : Type 0 where
   pub format : ℕ
   pub planar : Bool
   pub compression : ℕ
-  pub offsets : Array
-  pub counts : Array
+  pub offsets : List ℕ
+  pub counts : List ℕ
   pub cz : Option (ℕ × ℕ)
 
 -- "Absent, width and height are 0, strip arrays empty, NewSubfileType 0, and SamplesPerPixel, BitsPerSample, SampleFormat, Compression
@@ -102,8 +104,8 @@ plain =
       format = 1;
       planar = false;
       compression = 1;
-      offsets = noArray;
-      counts = noArray;
+      offsets = [];
+      counts = [];
       cz = none;
     }
 
@@ -151,10 +153,10 @@ put stripByteCounts v d = d
 put czLsmInfo v d = d
 put other v d = d
 
-abbrev pub putOffsets : Array → Directory → Directory
+abbrev pub putOffsets : List ℕ → Directory → Directory
 putOffsets a d = record { reduced = d .reduced; width = d .width; height = d .height; samples = d .samples; bits = d .bits; format = d .format; planar = d .planar; compression = d .compression; offsets = a; counts = d .counts; cz = d .cz }
 
-abbrev pub putCounts : Array → Directory → Directory
+abbrev pub putCounts : List ℕ → Directory → Directory
 putCounts a d = record { reduced = d .reduced; width = d .width; height = d .height; samples = d .samples; bits = d .bits; format = d .format; planar = d .planar; compression = d .compression; offsets = d .offsets; counts = a; cz = d .cz }
 
 abbrev pub putCz : ℕ → ℕ → Directory → Directory
@@ -203,7 +205,7 @@ directory o f place =
     bind (u16At o f place) (λ n.
     bind (u32At o f (place + 2 + 12 * n)) (λ next.
     bind (entries n o f (place + 2) 0 plain) (λ d.
-    bind (need decode (eqb (d .offsets .count) (d .counts .count))) (λ _. accepted (d, next)))))
+    bind (need decode (eqb (length (d .offsets)) (length (d .counts)))) (λ _. accepted (d, next)))))
 
 -- ---- what is read
 
@@ -213,7 +215,7 @@ scalarRanges o f type count place = over (scalarPlace o f type count place) (λ 
 
 -- "and all values of strip arrays"
 abbrev pub arrayRanges : Order → List ℕ → ℕ → ℕ → ℕ → Ranges
-arrayRanges o f type count place = over (array o f type count place) (λ a. at (a .place) (a .size * a .count))
+arrayRanges o f type count place = over (arrayPlace o f type count place) (λ v. inFile f (v .0) (v .1 * count))
 
 abbrev pub entryByRanges : Tag → Order → List ℕ → ℕ → ℕ → ℕ → Ranges
 entryByRanges newSubfileType o f type count place = scalarRanges o f type count place

@@ -1,20 +1,20 @@
 -- Opening a file (lsm_reader.rs, read_tiff_header, parse_lsm, open; io.rs).
-use Prim.Native.Nat.{ℕ, zero, suc, _+_, _*_, _/_, _%_, max}
+use Prim.Native.Nat.{ℕ, zero, suc, _+_, _/_, _%_, max}
 use mathlib.Core.Bool.{Bool, true, false, not, _&&_, _||_, Bool·beq, cond}
 use mathlib.Core.Option.{Option, none, some}
 use mathlib.Core.List.{List, [], _∷_, _++_}
 use lib.Dec.{leb, eqb}
-use lib.ListN.{length, getD, take, drop}
+use lib.ListN.{length, getD}
 use Rattle.lsm_format.specs.Answer.{Result, accepted, refused, bind, need, given, parse, decode, unsupported, oversizedAllocation}
 use Rattle.lsm_format.specs.Ranges.{Ranges, none as nothing, both, over, inFile}
-use Rattle.lsm_format.specs.Numbers.{Order, little, big, valueOf, u16At, u32At}
+use Rattle.lsm_format.specs.Numbers.{Order, little, big, u16At, u32At}
 use Rattle.lsm_format.specs.Sizes.{Kind, u8, u16, i16, f32}
 use Rattle.lsm_format.specs.Rectangle.{Dims}
 use Rattle.lsm_format.specs.Scenes.{Layout, layout, pagesExpected}
 use Rattle.lsm_format.specs.Lent.{lend, filled}
 use Rattle.lsm_format.specs.Calibration.{Calibration}
 use Rattle.lsm_format.specs.CzInfo.{CzInfo, czInfo, czRanges}
-use Rattle.lsm_format.specs.Directory.{Array, Directory, directory, directoryRanges}
+use Rattle.lsm_format.specs.Directory.{Directory, directory, directoryRanges}
 
 -- ---- the header
 
@@ -38,8 +38,8 @@ tiffHeader f =
 
 -- The two strip arrays of a full page.
 pub record Page : Type 0 where
-  pub offsets : Array
-  pub counts : Array
+  pub offsets : List ℕ
+  pub counts : List ℕ
 
 -- What the directories visited so far tell: how many they are; the first full page; the full pages; the CZ entry.
 pub record Walk : Type 0 where
@@ -79,7 +79,7 @@ joinBy false none w d =
     accepted (record { visited = w .visited + 1; first = some d; pages = w .pages ++ arraysOf d ∷ []; cz = firstOf (w .cz) (d .cz) })
 joinBy false (some p) w d =
     bind (need unsupported (sameGeometry d p)) (λ _.
-    bind (need decode (eqb (d .offsets .count) (p .offsets .count))) (λ _.
+    bind (need decode (eqb (length (d .offsets)) (length (p .offsets)))) (λ _.
     accepted (record {
       visited = w .visited + 1;
       first = some p;
@@ -129,7 +129,7 @@ describe o k p pages i =
     bind (need decode (eqb (i .dimChannels) (max 1 (p .samples)))) (λ _.
     bind (need unsupported (leb (i .dimTime) 1)) (λ _.
     bind (need unsupported (leb (max 1 (p .samples)) 1 || p .planar)) (λ _.
-    bind (need decode (not (eqb (p .offsets .count) 0) && eqb (p .offsets .count % max 1 (p .samples)) 0)) (λ _.
+    bind (need decode (not (eqb (length (p .offsets)) 0) && eqb (length (p .offsets) % max 1 (p .samples)) 0)) (λ _.
     bind (layout (i .dimP) (i .dimM) (max 1 (i .dimZ))) (λ l.
     bind (pagesExpected l) (λ expected.
     bind (need decode (eqb pages expected)) (λ _.
@@ -138,7 +138,7 @@ describe o k p pages i =
       kind = k;
       dims = record { t = 1; c = max 1 (p .samples); z = max 1 (i .dimZ); y = p .height; x = p .width };
       layout = l;
-      stripsPerChannel = p .offsets .count / max 1 (p .samples);
+      stripsPerChannel = length (p .offsets) / max 1 (p .samples);
       calibration = i .calibration;
       channelBlock = i .channelColors;
     })))))))))
@@ -154,19 +154,16 @@ describeWalk o f w =
 
 -- ---- the strip table
 
--- The i-th value of a strip array.
-unfoldable pub valueAt : Order → List ℕ → Array → ℕ → ℕ
-valueAt o f a i = valueOf o (take (a .size) (drop (a .place + a .size * i) f))
+-- "strip by strip, offset then count"
+abbrev pub stripWords : List ℕ → List ℕ → List ℕ
+stripWords [] counts = []
+stripWords (offset ∷ offsets) [] = []
+stripWords (offset ∷ offsets) (count ∷ counts) = offset ∷ count ∷ stripWords offsets counts
 
--- "The table takes 2 × pages × strips words of 64 bits: page by page, strip by strip, offset then count": the n strips of a page
--- from the i-th on.
-abbrev pub stripWords : ℕ → Order → List ℕ → Page → ℕ → List ℕ
-stripWords zero o f p i = []
-stripWords (suc n) o f p i = valueAt o f (p .offsets) i ∷ valueAt o f (p .counts) i ∷ stripWords n o f p (i + 1)
-
-abbrev pub tableWords : Order → List ℕ → List Page → List ℕ
-tableWords o f [] = []
-tableWords o f (p ∷ ps) = stripWords (p .offsets .count) o f p 0 ++ tableWords o f ps
+-- "The table takes 2 × pages × strips words of 64 bits: page by page"
+abbrev pub tableWords : List Page → List ℕ
+tableWords [] = []
+tableWords (p ∷ ps) = stripWords (p .offsets) (p .counts) ++ tableWords ps
 
 -- ---- open
 
@@ -183,7 +180,7 @@ read f =
     bind (tiffHeader f) (λ o.
     bind (walk o f) (λ w.
     bind (describeWalk o f w) (λ d.
-    accepted (record { description = d; visited = w .visited; table = tableWords o f (w .pages) })))))
+    accepted (record { description = d; visited = w .visited; table = tableWords (w .pages) })))))
 
 -- "strip table length last": 7 with the words needed.
 unfoldable pub openFile : List ℕ → ℕ → Result Opened
@@ -211,10 +208,11 @@ abbrev pub czEntryRanges : Order → List ℕ → Option (ℕ × ℕ) → Ranges
 czEntryRanges o f none = nothing
 czEntryRanges o f (some cz) = czRanges o f (cz .0) (cz .1)
 
+unfoldable pub walkRanges : Order → List ℕ → Ranges
+walkRanges o f = over (u32At o f 4) (λ place. chainRanges 1000000 (eqb place 0) o f place start)
+
 -- "The 8-byte header; each visited directory [..]; in the CZ block used [..]". Strip arrays are among what their entries read.
 unfoldable pub openRanges : List ℕ → Ranges
 openRanges f =
     both (inFile f 0 8)
-    (over (tiffHeader f) (λ o.
-    over (u32At o f 4) (λ place.
-    both (chainRanges 1000000 (eqb place 0) o f place start) (over (walk o f) (λ w. czEntryRanges o f (w .cz))))))
+    (over (tiffHeader f) (λ o. both (walkRanges o f) (over (walk o f) (λ w. czEntryRanges o f (w .cz)))))

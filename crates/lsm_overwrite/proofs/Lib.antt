@@ -1,1 +1,2 @@
 pub mod TwoFiles
+pub mod Directory

@@ -12,7 +12,7 @@ use borrow.Author.Tests.{le-leb, leb-true, leb-false}
 use Rattle.lsm_format.specs.Answer.{Result, accepted, refused, bind}
 use Rattle.lsm_format.specs.Ranges.{Ranges, none, at, both, over, inFile, flat, Inside, On, Agree}
 use Rattle.lsm_format.specs.Numbers.{Order, partAt, numberAt, numberRanges, i32At}
-use Rattle.lsm_format.proofs.Numbers.{bytesNext, bytesFrom, part-bytes, part-past, part-there}
+use Rattle.lsm_format.proofs.Numbers.{bytesNext, bytesFrom, part-bytes, part-past, part-there, number-past}
 
 -- a place in one of two lists of ranges is in both together
 inside-left : (p : ℕ) (rs qs : List (ℕ × ℕ)) → Inside p rs → Inside p (rs ++ qs)
@@ -25,7 +25,7 @@ inside-right p [] qs i = i
 inside-right p (r ∷ rs) qs i = inr (inside-right p rs qs i)
 
 -- a range that is in the file
-in-file-at : (f : List ℕ) (p m : ℕ) → p + m ≤ length f → inFile f p m ≡ at p m
+pub in-file-at : (f : List ℕ) (p m : ℕ) → p + m ≤ length f → inFile f p m ≡ at p m
 unfolding inFile
 in-file-at f p m h = rw (le-leb (p + m) (length f) h, inFile)
 
@@ -34,6 +34,13 @@ pub bind-law : {A B : Type 0} (m : Result A) {m′ : Result A} {k k′ : A → R
 unfolding bind
 bind-law (accepted a) e h = rw e (h a)
 bind-law (refused row) e h = rw e
+
+-- the same, where the rest may know that the step was accepted
+pub bind-told : {A B : Type 0} (m : Result A) {m′ : Result A} {k k′ : A → Result B} →
+    m′ ≡ m → ((a : A) → m ≡ accepted a → k′ a ≡ k a) → bind m′ k′ ≡ bind m k
+unfolding bind
+bind-told (accepted a) e h = rw e (h a refl)
+bind-told (refused row) e h = rw e
 
 module _ (f g : List ℕ) where
   -- files that agree at every listed place agree on the ranges
@@ -98,3 +105,17 @@ module _ (f g : List ℕ) where
     pub i32-listed : (o : Order) (p : ℕ) → Agree f g (numberRanges 4 f p) → i32At o g p ≡ i32At o f p
     unfolding i32At
     i32-listed o p a = bind-law _ (number-listed 4 o p a) (λ _. refl)
+
+    last-by : (b : Bool) (count : ℕ) (o : Order) (s n p : ℕ) → leb (s + n) (length f) ≡ b → (s ≤ p) × (p + count ≡ s + n) →
+        Agree f g (inFile f s n) → numberAt count o g p ≡ numberAt count o f p
+    last-by true count o s n p t i a =
+        let there : s + n ≤ length f = leb-true _ _ t in
+        number-law count o s n p (rw (in-file-at f s n there) at a) (omega arith)
+    last-by false count o s n p t i a =
+        let past : length f < s + n = leb-false _ _ t in
+        rw (number-past count o f p (omega arith), number-past count o g p (omega arith))
+
+    -- a number that ends where its range ends
+    pub number-last : (count : ℕ) (o : Order) (s n p : ℕ) → (s ≤ p) × (p + count ≡ s + n) → Agree f g (inFile f s n) →
+        numberAt count o g p ≡ numberAt count o f p
+    number-last count o s n p i a = last-by (leb (s + n) (length f)) count o s n p refl i a

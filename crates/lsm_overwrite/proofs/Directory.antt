@@ -1,0 +1,136 @@
+-- Two files of one length that agree on what a directory reads: the same directory. Assumes nothing.
+use Prim.Native.Nat.{ℕ, zero, suc, _+_, _*_, _≤_, _<_}
+use native.Mathlib.Nat.{mul-suc, mul-zero}
+use native.Mathlib.Omega.{arith}
+use mathlib.Core.Bool.{Bool, true, false}
+use mathlib.Core.Path.{_≡_, refl, sym, ap, _∙_}
+use mathlib.Core.List.{List}
+use lib.Dec.{leb}
+use lib.ListN.{length}
+use borrow.Author.Tests.{leb-true, leb-false}
+use Rattle.lsm_format.specs.Answer.{Result, accepted, refused, bind, parse}
+use Rattle.lsm_format.specs.Ranges.{inFile, On, Agree}
+use Rattle.lsm_format.specs.Numbers.{Order, numberAt, u32At}
+use Rattle.lsm_format.specs.Directory.{placeBy, valuePlace, scalarPlace, scalar, scalarRanges, arrayPlace, numbers, array, arrayRanges, Directory, plain, Tag, newSubfileType, imageWidth, imageLength, bitsPerSample, compression, stripOffsets, samplesPerPixel, stripByteCounts, planarConfiguration, sampleFormat, czLsmInfo, other, tagOf, entryBy, entryByRanges, entry, entryRanges, entries, entriesRanges, directory, directoryRanges}
+use Rattle.lsm_format.proofs.Numbers.{number-past, number-there}
+use Rattle.lsm_overwrite.proofs.TwoFiles.{bind-law, bind-told, over-law, on-part, in-file-at, number-law, number-listed, number-last}
+
+-- numbers that pass the end are 1, whatever the bytes before it
+past-by : (k : ℕ) (b : Bool) (size : ℕ) (o : Order) (e : List ℕ) (p : ℕ) → leb (p + size) (length e) ≡ b → length e < p + size * suc k →
+    numbers (suc k) size o e p ≡ refused parse
+unfolding numbers bind
+past-by zero true size o e p t h =
+    let there : p + size ≤ length e = leb-true _ _ t in
+    absurd (omega (arith, mul-suc size 0, mul-zero size))
+past-by zero false size o e p t h = rw (number-past size o e p (leb-false _ _ t))
+past-by (suc k) true size o e p t h =
+    rw (number-there size o e p (leb-true _ _ t), past-by k (leb (p + size + size) (length e)) size o e (p + size) refl (omega (arith, mul-suc size (suc k))))
+past-by (suc k) false size o e p t h = rw (number-past size o e p (leb-false _ _ t))
+
+module _ (f g : List ℕ) (len : length g ≡ length f) where
+  -- the offset of values is read from the entry itself
+  place-law : (b : Bool) (o : Order) (s n p : ℕ) → On f g s n → (s ≤ p) × (p + 4 ≤ s + n) → placeBy b o g p ≡ placeBy b o f p
+  place-law true o s n p h i = refl
+  place-law false o s n p h i = number-law f g len 4 o s n p h i
+
+  value-place-law : (o : Order) (size count s n p : ℕ) → On f g s n → (s ≤ p) × (p + 4 ≤ s + n) →
+      valuePlace o g size count p ≡ valuePlace o f size count p
+  unfolding valuePlace
+  value-place-law o size count s n p h i = place-law (leb (size * count) 4) o s n p h i
+
+  scalar-place-law : (o : Order) (type count s n p : ℕ) → On f g s n → (s ≤ p) × (p + 4 ≤ s + n) →
+      scalarPlace o g type count p ≡ scalarPlace o f type count p
+  unfolding scalarPlace
+  scalar-place-law o type count s n p h i =
+      bind-law _ refl (λ _. bind-law _ (value-place-law o _ count s n p h i) (λ q. refl))
+
+  scalar-law : (o : Order) (type count s n p : ℕ) → On f g s n → (s ≤ p) × (p + 4 ≤ s + n) → Agree f g (scalarRanges o f type count p) →
+      scalar o g type count p ≡ scalar o f type count p
+  unfolding scalar
+  scalar-law o type count s n p h i a =
+      over-law f g _ _ (scalar-place-law o type count s n p h i) a (λ v b. number-listed f g len (v .1) o (v .0) b)
+
+  array-place-law : (o : Order) (type count s n p : ℕ) → On f g s n → (s ≤ p) × (p + 4 ≤ s + n) →
+      arrayPlace o g type count p ≡ arrayPlace o f type count p
+  unfolding arrayPlace
+  array-place-law o type count s n p h i =
+      bind-law _ refl (λ _. bind-law _ (value-place-law o _ count s n p h i) (λ q. refl))
+
+  -- numbers one after another, in the file and past its end
+  numbers-on : (k size : ℕ) (o : Order) (p : ℕ) → On f g p (size * k) → numbers k size o g p ≡ numbers k size o f p
+  unfolding numbers
+  numbers-on zero size o p h = refl
+  numbers-on (suc k) size o p h =
+      bind-law _ (number-law f g len size o p (size * suc k) p h (lies size k p))
+      (λ v. bind-law _ (numbers-on k size o (p + size) (on-part f g p (size * suc k) (p + size) (size * k) h (rest size k p))) (λ vs. refl))
+    where
+      lies : (size k p : ℕ) → (p ≤ p) × (p + size ≤ p + size * suc k)
+      lies size k p = omega (arith, mul-suc size k)
+
+      rest : (size k p : ℕ) → (p ≤ p + size) × (p + size + size * k ≤ p + size * suc k)
+      rest size k p = omega (arith, mul-suc size k)
+
+  numbers-by : (b : Bool) (k size : ℕ) (o : Order) (p : ℕ) → leb (p + size * k) (length f) ≡ b → Agree f g (inFile f p (size * k)) →
+      numbers k size o g p ≡ numbers k size o f p
+  numbers-by true k size o p t a = numbers-on k size o p (rw (in-file-at f p (size * k) (leb-true _ _ t)) at a)
+  numbers-by false zero size o p t a = numbers-on zero size o p (λ q i. absurd (omega (arith, mul-zero size)))
+  numbers-by false (suc k) size o p t a =
+      let past : length f < p + size * suc k = leb-false _ _ t in
+      rw (past-by k (leb (p + size) (length f)) size o f p refl past, past-by k (leb (p + size) (length g)) size o g p refl (omega arith))
+
+  array-law : (o : Order) (type count s n p : ℕ) → On f g s n → (s ≤ p) × (p + 4 ≤ s + n) → Agree f g (arrayRanges o f type count p) →
+      array o g type count p ≡ array o f type count p
+  unfolding array
+  array-law o type count s n p h i a =
+      over-law f g _ _ (array-place-law o type count s n p h i) a
+      (λ v b. numbers-by (leb (v .0 + v .1 * count) (length f)) count (v .1) o (v .0) refl b)
+
+  -- an entry by its tag: a scalar, an array, the CZ entry or none
+  entry-by-law : (t : Tag) (o : Order) (type count s n p : ℕ) (d : Directory) → On f g s n → (s ≤ p) × (p + 4 ≤ s + n) →
+      Agree f g (entryByRanges t o f type count p) → entryBy t o g type count p d ≡ entryBy t o f type count p d
+  entry-by-law newSubfileType o type count s n p d h i a = bind-law _ (scalar-law o type count s n p h i a) (λ v. refl)
+  entry-by-law imageWidth o type count s n p d h i a = bind-law _ (scalar-law o type count s n p h i a) (λ v. refl)
+  entry-by-law imageLength o type count s n p d h i a = bind-law _ (scalar-law o type count s n p h i a) (λ v. refl)
+  entry-by-law bitsPerSample o type count s n p d h i a = bind-law _ (scalar-law o type count s n p h i a) (λ v. refl)
+  entry-by-law compression o type count s n p d h i a = bind-law _ (scalar-law o type count s n p h i a) (λ v. refl)
+  entry-by-law samplesPerPixel o type count s n p d h i a = bind-law _ (scalar-law o type count s n p h i a) (λ v. refl)
+  entry-by-law planarConfiguration o type count s n p d h i a = bind-law _ (scalar-law o type count s n p h i a) (λ v. refl)
+  entry-by-law sampleFormat o type count s n p d h i a = bind-law _ (scalar-law o type count s n p h i a) (λ v. refl)
+  entry-by-law stripOffsets o type count s n p d h i a = bind-law _ (array-law o type count s n p h i a) (λ v. refl)
+  entry-by-law stripByteCounts o type count s n p d h i a = bind-law _ (array-law o type count s n p h i a) (λ v. refl)
+  entry-by-law czLsmInfo o type count s n p d h i a = bind-law _ refl (λ _. bind-law _ (number-law f g len 4 o s n p h i) (λ v. refl))
+  entry-by-law other o type count s n p d h i a = refl
+
+  entry-law : (o : Order) (s n e : ℕ) (d : Directory) → On f g s n → (s ≤ e) × (e + 12 ≤ s + n) → Agree f g (entryRanges o f e) →
+      entry o g e d ≡ entry o f e d
+  unfolding entry entryRanges
+  entry-law o s n e d h i a =
+      over-law f g _ _ (number-law f g len 2 o s n e h (omega arith)) a (λ tag b.
+      over-law f g _ _ (number-law f g len 2 o s n (e + 2) h (omega arith)) b (λ type c.
+      over-law f g _ _ (number-law f g len 4 o s n (e + 4) h (omega arith)) c (λ count q.
+      entry-by-law (tagOf tag) o type count s n (e + 8) d h (omega arith) q)))
+
+  entries-law : (k : ℕ) (o : Order) (s n base i : ℕ) (d : Directory) → On f g s n → (s ≤ base) × (base + 12 * i + 12 * k ≤ s + n) →
+      Agree f g (entriesRanges k o f base i) → entries k o g base i d ≡ entries k o f base i d
+  unfolding entries entriesRanges
+  entries-law zero o s n base i d h j a = refl
+  entries-law (suc k) o s n base i d h j a =
+      bind-law _ (entry-law o s n (base + 12 * i) d h (omega arith) (a .0))
+      (λ e. entries-law k o s n base (i + 1) e h (omega arith) (a .1))
+
+  -- a number that was read is in the file
+  read-inside : (b : Bool) (count : ℕ) (o : Order) (p v : ℕ) → leb (p + count) (length f) ≡ b → numberAt count o f p ≡ accepted v → p + count ≤ length f
+  read-inside true count o p v t e = leb-true _ _ t
+  read-inside false count o p v t e =
+      let past : numberAt count o f p ≡ refused parse = number-past count o f p (leb-false _ _ t) in
+      let z : _≡_ {A = ℕ} 0 1 = cc in
+      absurd (omega arith)
+
+  pub directory-law : (o : Order) (place : ℕ) → Agree f g (directoryRanges o f place) → directory o g place ≡ directory o f place
+  unfolding directory directoryRanges
+  directory-law o place a =
+      over-law f g _ _ (number-listed f g len 2 o place (a .0)) (a .1) (λ n b.
+      bind-told _ (number-last f g len 4 o place (6 + 12 * n) (place + 2 + 12 * n) (omega arith) (b .0)) (λ next e.
+      let inside : place + 2 + 12 * n + 4 ≤ length f = read-inside (leb (place + 2 + 12 * n + 4) (length f)) 4 o (place + 2 + 12 * n) next refl e in
+      let on : On f g place (6 + 12 * n) = rw (in-file-at f place (6 + 12 * n) (omega arith)) at (b .0) in
+      bind-law _ (entries-law n o place (6 + 12 * n) (place + 2) 0 plain on (omega arith) (b .1)) (λ d. refl)))
