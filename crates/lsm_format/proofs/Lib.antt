@@ -2,3 +2,4 @@ pub mod Words
 pub mod Sizes
 pub mod Scenes
 pub mod Numbers
+pub mod Directory

@@ -4,13 +4,15 @@ use native.Mathlib.Nat.{add-suc}
 use native.Mathlib.Numerals.{add-one}
 use native.Mathlib.Omega.{arith}
 use mathlib.Core.Path.{_≡_, refl, ap}
+use mathlib.Core.Bool.{Bool, true, false}
 use mathlib.Core.List.{List, [], _∷_}
+use lib.Dec.{leb}
 use lib.IntN.{pos, negsuc, _-ℤ_}
 use lib.ListN.{length, getD, take, drop}
 use lib.Seq.{drop-cons}
-use borrow.Author.Tests.{le-leb, lt-leb, lt-ltb, le-ltb}
+use borrow.Author.Tests.{le-leb, lt-leb, lt-ltb, le-ltb, leb-true, leb-false}
 use Rattle.lsm_format.specs.Answer.{accepted, refused, bind, parse}
-use Rattle.lsm_format.specs.Numbers.{Order, valueOf, partAt, numberAt, signed32}
+use Rattle.lsm_format.specs.Numbers.{Order, little, big, valueOf, partAt, numberAt, signed32}
 
 -- the two cases of a part of the file
 pub part-past : (f : List ℕ) (at count : ℕ) → length f < at + count → partAt f at count ≡ refused parse
@@ -71,3 +73,24 @@ signed-high n h = rw (le-ltb n (2 ^ 31) h, signed32)
 
 pub less-than-all : (n : ℕ) → n < 2 ^ 32 → pos n -ℤ pos (2 ^ 32) ≡ negsuc (2 ^ 32 - suc n)
 less-than-all n h = rw (lt-ltb n (2 ^ 32) h)
+
+-- a byte has no order
+byte-by : (b : Bool) (o : Order) (f : List ℕ) (p : ℕ) → leb (p + 1) (length f) ≡ b → numberAt 1 little f p ≡ numberAt 1 o f p
+byte-by b little f p t = refl
+byte-by true big f p t = let there : p + 1 ≤ length f = leb-true _ _ t in rw (number-there 1 little f p there, number-there 1 big f p there)
+byte-by false big f p t = let past : length f < p + 1 = leb-false _ _ t in rw (number-past 1 little f p past, number-past 1 big f p past)
+
+pub number-byte : (o : Order) (f : List ℕ) (p : ℕ) → numberAt 1 little f p ≡ numberAt 1 o f p
+number-byte o f p = byte-by (leb (p + 1) (length f)) o f p refl
+
+-- a number that was read is in the file
+inside-by : (b : Bool) (count : ℕ) (o : Order) (f : List ℕ) (p v : ℕ) → leb (p + count) (length f) ≡ b → numberAt count o f p ≡ accepted v →
+    p + count ≤ length f
+inside-by true count o f p v t e = leb-true _ _ t
+inside-by false count o f p v t e =
+    let past : numberAt count o f p ≡ refused parse = number-past count o f p (leb-false _ _ t) in
+    let z : _≡_ {A = ℕ} 0 1 = cc in
+    absurd (omega arith)
+
+pub number-inside : (count : ℕ) (o : Order) (f : List ℕ) (p v : ℕ) → numberAt count o f p ≡ accepted v → p + count ≤ length f
+number-inside count o f p v e = inside-by (leb (p + count) (length f)) count o f p v refl e

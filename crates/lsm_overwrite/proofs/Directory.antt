@@ -12,20 +12,9 @@ use Rattle.lsm_format.specs.Answer.{Result, accepted, refused, bind, parse}
 use Rattle.lsm_format.specs.Ranges.{inFile, On, Agree}
 use Rattle.lsm_format.specs.Numbers.{Order, numberAt, u32At}
 use Rattle.lsm_format.specs.Directory.{placeBy, valuePlace, scalarPlace, scalar, scalarRanges, arrayPlace, numbers, array, arrayRanges, Directory, plain, Tag, newSubfileType, imageWidth, imageLength, bitsPerSample, compression, stripOffsets, samplesPerPixel, stripByteCounts, planarConfiguration, sampleFormat, czLsmInfo, other, tagOf, entryBy, entryByRanges, entry, entryRanges, entries, entriesRanges, directory, directoryRanges}
-use Rattle.lsm_format.proofs.Numbers.{number-past, number-there}
+use Rattle.lsm_format.proofs.Numbers.{number-inside}
+use Rattle.lsm_format.proofs.Directory.{numbers-past}
 use Rattle.lsm_overwrite.proofs.TwoFiles.{bind-law, bind-told, over-law, on-part, in-file-at, number-law, number-listed, number-last}
-
--- numbers that pass the end are 1, whatever the bytes before it
-past-by : (k : ℕ) (b : Bool) (size : ℕ) (o : Order) (e : List ℕ) (p : ℕ) → leb (p + size) (length e) ≡ b → length e < p + size * suc k →
-    numbers (suc k) size o e p ≡ refused parse
-unfolding numbers bind
-past-by zero true size o e p t h =
-    let there : p + size ≤ length e = leb-true _ _ t in
-    absurd (omega (arith, mul-suc size 0, mul-zero size))
-past-by zero false size o e p t h = rw (number-past size o e p (leb-false _ _ t))
-past-by (suc k) true size o e p t h =
-    rw (number-there size o e p (leb-true _ _ t), past-by k (leb (p + size + size) (length e)) size o e (p + size) refl (omega (arith, mul-suc size (suc k))))
-past-by (suc k) false size o e p t h = rw (number-past size o e p (leb-false _ _ t))
 
 module _ (f g : List ℕ) (len : length g ≡ length f) where
   -- the offset of values is read from the entry itself
@@ -76,7 +65,7 @@ module _ (f g : List ℕ) (len : length g ≡ length f) where
   numbers-by false zero size o p t a = numbers-on zero size o p (λ q i. absurd (omega (arith, mul-zero size)))
   numbers-by false (suc k) size o p t a =
       let past : length f < p + size * suc k = leb-false _ _ t in
-      rw (past-by k (leb (p + size) (length f)) size o f p refl past, past-by k (leb (p + size) (length g)) size o g p refl (omega arith))
+      rw (numbers-past k size o f p past, numbers-past k size o g p (omega arith))
 
   array-law : (o : Order) (type count s n p : ℕ) → On f g s n → (s ≤ p) × (p + 4 ≤ s + n) → Agree f g (arrayRanges o f type count p) →
       array o g type count p ≡ array o f type count p
@@ -118,19 +107,11 @@ module _ (f g : List ℕ) (len : length g ≡ length f) where
       bind-law _ (entry-law o s n (base + 12 * i) d h (omega arith) (a .0))
       (λ e. entries-law k o s n base (i + 1) e h (omega arith) (a .1))
 
-  -- a number that was read is in the file
-  read-inside : (b : Bool) (count : ℕ) (o : Order) (p v : ℕ) → leb (p + count) (length f) ≡ b → numberAt count o f p ≡ accepted v → p + count ≤ length f
-  read-inside true count o p v t e = leb-true _ _ t
-  read-inside false count o p v t e =
-      let past : numberAt count o f p ≡ refused parse = number-past count o f p (leb-false _ _ t) in
-      let z : _≡_ {A = ℕ} 0 1 = cc in
-      absurd (omega arith)
-
   pub directory-law : (o : Order) (place : ℕ) → Agree f g (directoryRanges o f place) → directory o g place ≡ directory o f place
   unfolding directory directoryRanges
   directory-law o place a =
       over-law f g _ _ (number-listed f g len 2 o place (a .0)) (a .1) (λ n b.
       bind-told _ (number-last f g len 4 o place (6 + 12 * n) (place + 2 + 12 * n) (omega arith) (b .0)) (λ next e.
-      let inside : place + 2 + 12 * n + 4 ≤ length f = read-inside (leb (place + 2 + 12 * n + 4) (length f)) 4 o (place + 2 + 12 * n) next refl e in
+      let inside : place + 2 + 12 * n + 4 ≤ length f = number-inside 4 o f (place + 2 + 12 * n) next e in
       let on : On f g place (6 + 12 * n) = rw (in-file-at f place (6 + 12 * n) (omega arith)) at (b .0) in
       bind-law _ (entries-law n o place (6 + 12 * n) (place + 2) 0 plain on (omega arith) (b .1)) (λ d. refl)))

@@ -1,0 +1,18 @@
+-- The values of a strip array whose place in the file is known.
+use Prim.Native.Nat.{ℕ, zero, suc, _+_}
+use mathlib.Core.List.{List, [], _∷_}
+use lib.Dec.{leb}
+use lib.ListN.{take, drop}
+use Rattle.lsm_format.specs.Answer.{Result, bind, need, decode}
+use Rattle.lsm_format.specs.Directory.{elementSize, numbers}
+use Rattle.lsm_format.specs.Numbers.{Order, valueOf}
+
+-- So many numbers of so many bytes, one after another from a place on, all of them in the file.
+unfoldable pub values : ℕ → ℕ → Order → List ℕ → ℕ → List ℕ
+values zero size o f p = []
+values (suc n) size o f p = valueOf o (take size (drop p f)) ∷ values n size o f (p + size)
+
+-- A strip array whose place is known already: the checks that are left of it.
+unfoldable pub arrayAt : Order → List ℕ → ℕ → ℕ → ℕ → Result (List ℕ)
+arrayAt o f type count p =
+    bind (need decode (leb count 100000)) (λ _. bind (elementSize count type) (λ size. numbers count size o f p))

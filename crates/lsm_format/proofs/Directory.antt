@@ -1,0 +1,166 @@
+-- Laws of the directory's definitions, a case each. Assumes nothing.
+use Prim.Native.Nat.{ℕ, zero, suc, _+_, _*_, _≤_, _<_}
+use native.Mathlib.Nat.{mul-suc, mul-zero}
+use native.Mathlib.Omega.{arith}
+use mathlib.Core.Bool.{Bool, true, false, _&&_, cond}
+use mathlib.Core.Option.{none, some}
+use mathlib.Core.Path.{_≡_, refl, sym}
+use mathlib.Core.List.{List, [], _∷_}
+use lib.Dec.{leb, T, leb→le, lit≤}
+use lib.ListN.{length}
+use borrow.Author.Tests.{eq-eqb, ne-eqb, leb-true, leb-false, le-leb, lt-leb}
+use Rattle.lsm_format.specs.Answer.{Result, accepted, refused, bind, need, given, parse, decode}
+use Rattle.lsm_format.specs.Numbers.{Order, numberAt, u32At}
+use Rattle.lsm_format.specs.Directory.{among, typeSize, integerSize, valuePlace, scalarPlace, scalar, arrayPlace, numbers, array}
+use Rattle.lsm_format.proofs.Numbers.{number-past, number-there}
+
+-- ---- types
+
+abbrev allUpTo : ℕ → List ℕ → Bool
+allUpTo b [] = true
+allUpTo b (m ∷ ms) = leb m b && allUpTo b ms
+
+-- a number above every one of a list is not among them
+among-above : (t b : ℕ) (ms : List ℕ) → T (allUpTo b ms) → b < t → among t ms ≡ false
+among-above t b [] h k = refl
+among-above t b (m ∷ ms) h k = by (leb m b) (leb→le m b) (λ r. among-above t b ms r k) h
+  where
+    by : (l : Bool) → (T l → m ≤ b) → (T (allUpTo b ms) → among t ms ≡ false) → T (l && allUpTo b ms) → among t (m ∷ ms) ≡ false
+    by true q rest h = let le : m ≤ b = q tt in rw (ne-eqb t m (λ e. omega arith)) (rest h)
+    by false q rest h = absurd h
+
+-- codes above 12, and 0, are no types
+pub type-above : (t : ℕ) → 12 < t → (typeSize t ≡ 0) × (integerSize t ≡ none)
+unfolding typeSize integerSize
+type-above t h =
+    (rw (among-above t 12 (1 ∷ 2 ∷ 6 ∷ 7 ∷ []) tt h, among-above t 12 (3 ∷ 8 ∷ []) tt h, among-above t 12 (4 ∷ 9 ∷ 11 ∷ []) tt h, among-above t 12 (5 ∷ 10 ∷ 12 ∷ []) tt h),
+      rw (among-above t 12 (1 ∷ 6 ∷ 7 ∷ []) tt h, among-above t 12 (3 ∷ 8 ∷ []) tt h, among-above t 12 (4 ∷ 9 ∷ 11 ∷ []) tt h))
+
+-- the codes from 1 to 7 that are none of 3, 4 and 5 have one byte
+pub type-one : (t : ℕ) → 1 ≤ t → t < 8 → (t ≡ 3 → ⊥) → (t ≡ 4 → ⊥) → (t ≡ 5 → ⊥) → 1 ≡ typeSize t
+unfolding typeSize
+type-one zero l h x y z = absurd (omega arith)
+type-one (suc zero) l h x y z = refl
+type-one (suc (suc zero)) l h x y z = refl
+type-one (suc (suc (suc zero))) l h x y z = absurd (x refl)
+type-one (suc (suc (suc (suc zero)))) l h x y z = absurd (y refl)
+type-one (suc (suc (suc (suc (suc zero))))) l h x y z = absurd (z refl)
+type-one (suc (suc (suc (suc (suc (suc zero)))))) l h x y z = refl
+type-one (suc (suc (suc (suc (suc (suc (suc zero))))))) l h x y z = refl
+type-one (suc (suc (suc (suc (suc (suc (suc (suc n)))))))) l h x y z = absurd (omega arith)
+
+-- the codes that are read as no number: below 6 those that are none of 1, 3 and 4, from 8 on those that are none of 8, 9 and 11
+pub integer-low : (t : ℕ) → t < 6 → (t ≡ 1 → ⊥) → (t ≡ 3 → ⊥) → (t ≡ 4 → ⊥) → none ≡ integerSize t
+unfolding integerSize
+integer-low zero h x y z = refl
+integer-low (suc zero) h x y z = absurd (x refl)
+integer-low (suc (suc zero)) h x y z = refl
+integer-low (suc (suc (suc zero))) h x y z = absurd (y refl)
+integer-low (suc (suc (suc (suc zero)))) h x y z = absurd (z refl)
+integer-low (suc (suc (suc (suc (suc zero))))) h x y z = refl
+integer-low (suc (suc (suc (suc (suc (suc n)))))) h x y z = absurd (omega arith)
+
+pub integer-high : (t : ℕ) → 8 ≤ t → (t ≡ 8 → ⊥) → (t ≡ 9 → ⊥) → (t ≡ 11 → ⊥) → none ≡ integerSize t
+unfolding integerSize
+integer-high zero h x y z = absurd (omega arith)
+integer-high (suc zero) h x y z = absurd (omega arith)
+integer-high (suc (suc zero)) h x y z = absurd (omega arith)
+integer-high (suc (suc (suc zero))) h x y z = absurd (omega arith)
+integer-high (suc (suc (suc (suc zero)))) h x y z = absurd (omega arith)
+integer-high (suc (suc (suc (suc (suc zero))))) h x y z = absurd (omega arith)
+integer-high (suc (suc (suc (suc (suc (suc zero)))))) h x y z = absurd (omega arith)
+integer-high (suc (suc (suc (suc (suc (suc (suc zero))))))) h x y z = absurd (omega arith)
+integer-high (suc (suc (suc (suc (suc (suc (suc (suc zero)))))))) h x y z = absurd (x refl)
+integer-high (suc (suc (suc (suc (suc (suc (suc (suc (suc zero))))))))) h x y z = absurd (y refl)
+integer-high (suc (suc (suc (suc (suc (suc (suc (suc (suc (suc zero)))))))))) h x y z = refl
+integer-high (suc (suc (suc (suc (suc (suc (suc (suc (suc (suc (suc zero))))))))))) h x y z = absurd (z refl)
+integer-high (suc (suc (suc (suc (suc (suc (suc (suc (suc (suc (suc (suc zero)))))))))))) h x y z = refl
+integer-high (suc (suc (suc (suc (suc (suc (suc (suc (suc (suc (suc (suc (suc n))))))))))))) h x y z = sym (type-above (suc (suc (suc (suc (suc (suc (suc (suc (suc (suc (suc (suc (suc n))))))))))))) (omega arith) .1)
+
+-- 6 and 7 are read as one byte
+pub integer-one : (t : ℕ) → 6 ≤ t → t < 8 → some 1 ≡ integerSize t
+unfolding integerSize
+integer-one zero l h = absurd (omega arith)
+integer-one (suc zero) l h = absurd (omega arith)
+integer-one (suc (suc zero)) l h = absurd (omega arith)
+integer-one (suc (suc (suc zero))) l h = absurd (omega arith)
+integer-one (suc (suc (suc (suc zero)))) l h = absurd (omega arith)
+integer-one (suc (suc (suc (suc (suc zero))))) l h = absurd (omega arith)
+integer-one (suc (suc (suc (suc (suc (suc zero)))))) l h = refl
+integer-one (suc (suc (suc (suc (suc (suc (suc zero))))))) l h = refl
+integer-one (suc (suc (suc (suc (suc (suc (suc (suc n)))))))) l h = absurd (omega arith)
+
+-- ---- the place of an entry's values
+
+pub place-in-entry : (o : Order) (f : List ℕ) (size count p : ℕ) → size * count ≤ 4 → accepted p ≡ valuePlace o f size count p
+unfolding valuePlace
+place-in-entry o f size count p h = rw (le-leb (size * count) 4 h)
+
+pub place-by-offset : (o : Order) (f : List ℕ) (size count p : ℕ) (r : Result ℕ) → 4 < size * count → u32At o f p ≡ r → r ≡ valuePlace o f size count p
+unfolding valuePlace
+place-by-offset o f size count p r h e = rw (lt-leb (size * count) 4 h) (sym e)
+
+-- ---- numbers one after another
+
+-- numbers that pass the end are 1, whatever the bytes before it
+past-by : (k : ℕ) (b : Bool) (size : ℕ) (o : Order) (e : List ℕ) (p : ℕ) → leb (p + size) (length e) ≡ b → length e < p + size * suc k →
+    numbers (suc k) size o e p ≡ refused parse
+unfolding numbers bind
+past-by zero true size o e p t h =
+    let there : p + size ≤ length e = leb-true _ _ t in
+    absurd (omega (arith, mul-suc size 0, mul-zero size))
+past-by zero false size o e p t h = rw (number-past size o e p (leb-false _ _ t))
+past-by (suc k) true size o e p t h =
+    rw (number-there size o e p (leb-true _ _ t), past-by k (leb (p + size + size) (length e)) size o e (p + size) refl (omega (arith, mul-suc size (suc k))))
+past-by (suc k) false size o e p t h = rw (number-past size o e p (leb-false _ _ t))
+
+pub numbers-past : (k size : ℕ) (o : Order) (f : List ℕ) (p : ℕ) → length f < p + size * suc k → numbers (suc k) size o f p ≡ refused parse
+numbers-past k size o f p h = past-by k (leb (p + size) (length f)) size o f p refl h
+
+-- ---- sizes of types
+
+sizes-small : (a b c d : Bool) → cond a 1 (cond b 2 (cond c 4 (cond d 8 0))) ≤ 8
+sizes-small true b c d = lit≤ tt
+sizes-small false true c d = lit≤ tt
+sizes-small false false true d = lit≤ tt
+sizes-small false false false true = lit≤ tt
+sizes-small false false false false = lit≤ tt
+
+pub type-size-small : (t : ℕ) → typeSize t ≤ 8
+unfolding typeSize
+type-size-small t =
+    sizes-small (among t (1 ∷ 2 ∷ 6 ∷ 7 ∷ [])) (among t (3 ∷ 8 ∷ [])) (among t (4 ∷ 9 ∷ 11 ∷ [])) (among t (5 ∷ 10 ∷ 12 ∷ []))
+
+-- ---- scalars and strip arrays, case by case in the order of their checks
+
+module _ (o : Order) (f : List ℕ) (type count place size : ℕ) (is : size ≡ typeSize type) where
+  pub scalar-no-type : size ≡ 0 → refused decode ≡ scalar o f type count place
+  unfolding scalar scalarPlace bind
+  scalar-no-type z = rw (← is, eq-eqb size 0 z)
+
+  pub array-no-type : size ≡ 0 → refused decode ≡ array o f type count place
+  unfolding array arrayPlace bind
+  array-no-type z = rw (← is, eq-eqb size 0 z)
+
+  module _ (z : size ≡ 0 → ⊥) where
+    pub scalar-no-count : count ≡ 0 → refused decode ≡ scalar o f type count place
+    unfolding scalar scalarPlace bind
+    scalar-no-count n = rw (← is, ne-eqb size 0 z, eq-eqb count 0 n)
+
+    pub array-nowhere : (row : List ℕ) → valuePlace o f size count place ≡ refused row → refused row ≡ array o f type count place
+    unfolding array arrayPlace bind
+    array-nowhere row e = rw (← is, ne-eqb size 0 z, e)
+
+    module _ (n : count ≡ 0 → ⊥) where
+      pub scalar-nowhere : (row : List ℕ) → valuePlace o f size count place ≡ refused row → refused row ≡ scalar o f type count place
+      unfolding scalar scalarPlace bind
+      scalar-nowhere row e = rw (← is, ne-eqb size 0 z, ne-eqb count 0 n, e)
+
+      module _ (p : ℕ) (e : valuePlace o f size count place ≡ accepted p) where
+        pub scalar-no-number : integerSize type ≡ none → refused decode ≡ scalar o f type count place
+        unfolding scalar scalarPlace bind
+        scalar-no-number i = rw (← is, ne-eqb size 0 z, ne-eqb count 0 n, e, i)
+
+        pub scalar-is : (width : ℕ) → integerSize type ≡ some width → numberAt width o f p ≡ scalar o f type count place
+        unfolding scalar scalarPlace bind
+        scalar-is width i = rw (← is, ne-eqb size 0 z, ne-eqb count 0 n, e, i)
