@@ -1,11 +1,14 @@
 -- What the directory's types mean in the definitions' terms. A strip array is kept by its place, and means the values there.
 use Prim.Native.Nat.{ℕ}
+use mathlib.Core.Bool.{cond}
 use mathlib.Core.Option.{Option, none, some}
 use mathlib.Core.List.{List}
+use lib.Dec.{leb}
 use Rattle.lsm_format.specs.Answer.{Result, accepted, refused}
 use Rattle.lsm_format.specs.Code.{rowOf}
 use Rattle.lsm_format.specs.Numbers.{Order}
 use Rattle.lsm_format.specs.Directory as Rule
+use Rattle.lsm_format.specs.Directory.{newSubfileType, imageWidth, imageLength, bitsPerSample, compression, samplesPerPixel, planarConfiguration, sampleFormat, field, stripOffsets, stripByteCounts, czLsmInfo, other}
 use Rattle.lsm_directory.specs.Values.{values}
 use Rattle.lsm_directory.specs.declared.Width.{Width}
 use Rattle.lsm_directory.specs.declared.Width.the-variants.{One, Two, Four}
@@ -21,6 +24,12 @@ use Rattle.lsm_directory.specs.declared.ArrayAnswer.the-variants.{Array,
 use Rattle.lsm_directory.specs.declared.CzEntry.{CzEntry}
 use Rattle.lsm_directory.specs.declared.CzEntry.the-variants.{Absent, Block}
 use Rattle.lsm_directory.specs.declared.Directory.{Directory}
+use Rattle.lsm_directory.specs.declared.Field.{Field}
+use Rattle.lsm_directory.specs.declared.Field.the-variants.{NewSubfileType, ImageWidth, ImageLength, BitsPerSample, Compression, SamplesPerPixel, PlanarConfiguration, SampleFormat}
+use Rattle.lsm_directory.specs.declared.Tag.{Tag}
+use Rattle.lsm_directory.specs.declared.Tag.the-variants.{Field as OfField, StripOffsets, StripByteCounts, CzLsmInfo, Other}
+use Rattle.lsm_directory.specs.declared.Short.{Short}
+use Rattle.lsm_directory.specs.declared.Short.the-variants.{Value as ShortValue, TooLarge}
 use Rattle.lsm_directory.specs.declared.Step.{Step}
 use Rattle.lsm_directory.specs.declared.Step.the-variants.{Next, Refused as RefusedStep}
 
@@ -71,3 +80,28 @@ directoryOf o f d =
 abbrev pub stepOf : Order → List ℕ → Step → Result Rule.Directory
 stepOf o f (Next d) = accepted (directoryOf o f d)
 stepOf o f (RefusedStep r) = refused (rowOf r)
+
+abbrev pub fieldMeant : Field → Rule.Field
+fieldMeant NewSubfileType = newSubfileType
+fieldMeant ImageWidth = imageWidth
+fieldMeant ImageLength = imageLength
+fieldMeant BitsPerSample = bitsPerSample
+fieldMeant Compression = compression
+fieldMeant SamplesPerPixel = samplesPerPixel
+fieldMeant PlanarConfiguration = planarConfiguration
+fieldMeant SampleFormat = sampleFormat
+
+abbrev pub tagMeant : Tag → Rule.Tag
+tagMeant (OfField t) = field (fieldMeant t)
+tagMeant StripOffsets = stripOffsets
+tagMeant StripByteCounts = stripByteCounts
+tagMeant CzLsmInfo = czLsmInfo
+tagMeant Other = other
+
+-- A value of 16 bits, or none.
+abbrev pub shortOf : Short → Option ℕ
+shortOf (ShortValue n) = some n
+shortOf TooLarge = none
+
+unfoldable pub shortValue : ℕ → Option ℕ
+shortValue v = cond (leb v 65535) (some v) none

@@ -8,14 +8,14 @@ use lsm_bytes::read_u32;
 use lsm_format::error::Refusal;
 use lsm_format::types::Endian;
 ghost use mathlib.Core.Path.{_≡_};
-ghost use Prim.Native.Nat.{_+_, _≤_, _<_, _^_};
-ghost use lib.ListN.{length};
+ghost use mathlib.Core.List.{List};
+ghost use Prim.Native.Nat.{ℕ, _≤_};
 ghost use Rattle.lsm_format.specs.Code.{orderOf};
-ghost use Rattle.lsm_format.specs.Numbers.{numberAt};
-ghost use Rattle.lsm_format.specs.Directory.{typeSize, integerSize, valuePlace, scalar, array};
+ghost use Rattle.lsm_format.specs.Numbers.{Order, numberAt};
+ghost use Rattle.lsm_format.specs.Directory.{typeSize, integerSize, valuePlace, scalar, array, tagOf, isReduced, putField, czLsmInfo, entryBy, entry};
 ghost use Rattle.lsm_bytes.specs.Code.{u32Of};
 ghost use Rattle.lsm_directory.specs.Values.{arrayAt};
-ghost use Rattle.lsm_directory.specs.Code.{bytesOf, integerOf, placeOf, scalarOf, arrayOf};
+ghost use Rattle.lsm_directory.specs.Code.{bytesOf, integerOf, placeOf, scalarOf, arrayOf, tagMeant, fieldMeant, shortOf, shortValue, directoryOf, stepOf};
 
 // The bytes of a number.
 pub enum Width {
@@ -212,4 +212,195 @@ pub struct Directory {
 pub enum Step {
     Next(Directory),
     Refused(Refusal),
+}
+
+// The tags of scalars that are used.
+pub enum Field {
+    NewSubfileType,
+    ImageWidth,
+    ImageLength,
+    BitsPerSample,
+    Compression,
+    SamplesPerPixel,
+    PlanarConfiguration,
+    SampleFormat,
+}
+
+pub enum Tag {
+    Field(Field),
+    StripOffsets,
+    StripByteCounts,
+    CzLsmInfo,
+    Other,
+}
+
+pub fn tag_of(tag: u16) -> Tag
+    ensures { λ r. ⌜ tagMeant r ≡ tagOf tag ⌝ }
+{
+    match tag {
+        254 => Tag::Field(Field::NewSubfileType),
+        256 => Tag::Field(Field::ImageWidth),
+        257 => Tag::Field(Field::ImageLength),
+        258 => Tag::Field(Field::BitsPerSample),
+        259 => Tag::Field(Field::Compression),
+        273 => Tag::StripOffsets,
+        277 => Tag::Field(Field::SamplesPerPixel),
+        279 => Tag::StripByteCounts,
+        284 => Tag::Field(Field::PlanarConfiguration),
+        339 => Tag::Field(Field::SampleFormat),
+        34412 => Tag::CzLsmInfo,
+        _ => Tag::Other,
+    }
+}
+
+// Bit 0 marks a reduced page and bit 2 a mask: neither is a picture.
+fn is_reduced(v: u32) -> bool
+    ensures { λ r. ⌜ r ≡ isReduced v ⌝ }
+{
+    if v % 2 == 1 {
+        return true;
+    }
+    v / 4 % 2 == 1
+}
+
+enum Short {
+    Value(u16),
+    TooLarge,
+}
+
+fn short_value(v: u32) -> Short
+    ensures { λ r. ⌜ shortOf r ≡ shortValue v ⌝ }
+{
+    if v <= 65_535 {
+        Short::Value(v as u16)
+    } else {
+        Short::TooLarge
+    }
+}
+
+// The directory with a scalar's value.
+fn put_field(t: Field, v: u32, d: Directory) -> Step
+    ensures { λ r. ⌜ ((o : Order) (f : List ℕ) → stepOf o f r ≡ putField (fieldMeant t) v (directoryOf o f d)) ⌝ }
+{
+    let mut next = d;
+    match t {
+        Field::NewSubfileType => {
+            next.reduced = is_reduced(v);
+            Step::Next(next)
+        }
+        Field::ImageWidth => {
+            next.width = v;
+            Step::Next(next)
+        }
+        Field::ImageLength => {
+            next.height = v;
+            Step::Next(next)
+        }
+        Field::PlanarConfiguration => {
+            next.planar = v == 2;
+            Step::Next(next)
+        }
+        Field::BitsPerSample => match short_value(v) {
+            Short::Value(n) => {
+                next.bits = n;
+                Step::Next(next)
+            }
+            Short::TooLarge => Step::Refused(Refusal::Decode),
+        },
+        Field::Compression => match short_value(v) {
+            Short::Value(n) => {
+                next.compression = n;
+                Step::Next(next)
+            }
+            Short::TooLarge => Step::Refused(Refusal::Decode),
+        },
+        Field::SamplesPerPixel => match short_value(v) {
+            Short::Value(n) => {
+                next.samples = n;
+                Step::Next(next)
+            }
+            Short::TooLarge => Step::Refused(Refusal::Decode),
+        },
+        Field::SampleFormat => match short_value(v) {
+            Short::Value(n) => {
+                next.sample_format = n;
+                Step::Next(next)
+            }
+            Short::TooLarge => Step::Refused(Refusal::Decode),
+        },
+    }
+}
+
+// The CZ entry: its values never fit into four bytes, so it holds an offset.
+fn cz_entry(buf: &[u8], ty: u16, count: u32, off: usize, d: Directory, e: Endian) -> Step
+    ensures { λ r. ⌜ stepOf (orderOf e) (now (buf .entry)) r ≡ entryBy czLsmInfo (orderOf e) (now (buf .entry)) ty count off (directoryOf (orderOf e) (now (buf .entry)) d) ⌝ }
+{
+    let total = tiff_type_size(ty) * (count as usize);
+    if total <= 4 {
+        return Step::Refused(Refusal::Decode);
+    }
+    let U32::Value(offset) = read_u32(buf, off, e) else {
+        return Step::Refused(Refusal::Parse);
+    };
+    let offsets = d.offsets;
+    let counts = d.counts;
+    Step::Next(Directory {
+        reduced: d.reduced,
+        width: d.width,
+        height: d.height,
+        samples: d.samples,
+        bits: d.bits,
+        sample_format: d.sample_format,
+        planar: d.planar,
+        compression: d.compression,
+        offsets,
+        counts,
+        cz: CzEntry::Block(offset as usize, total),
+    })
+}
+
+// What an entry makes of the directory, by its tag.
+fn entry_by(buf: &[u8], t: Tag, ty: u16, count: u32, off: usize, d: Directory, e: Endian) -> Step
+    ensures { λ r. ⌜ stepOf (orderOf e) (now (buf .entry)) r ≡ entryBy (tagMeant t) (orderOf e) (now (buf .entry)) ty count off (directoryOf (orderOf e) (now (buf .entry)) d) ⌝ }
+{
+    match t {
+        Tag::Field(field) => match read_scalar(buf, ty, count, off, e) {
+            Scalar::Value(v) => put_field(field, v, d),
+            Scalar::Refused(r) => Step::Refused(r),
+        },
+        Tag::StripOffsets => match read_array(buf, ty, count, off, e) {
+            ArrayAnswer::Array(a) => {
+                let mut next = d;
+                next.offsets = a;
+                Step::Next(next)
+            }
+            ArrayAnswer::Refused(r) => Step::Refused(r),
+        },
+        Tag::StripByteCounts => match read_array(buf, ty, count, off, e) {
+            ArrayAnswer::Array(a) => {
+                let mut next = d;
+                next.counts = a;
+                Step::Next(next)
+            }
+            ArrayAnswer::Refused(r) => Step::Refused(r),
+        },
+        Tag::CzLsmInfo => cz_entry(buf, ty, count, off, d, e),
+        Tag::Other => Step::Next(d),
+    }
+}
+
+// What the entry at a place makes of the directory.
+pub fn read_entry(buf: &[u8], at: usize, d: Directory, e: Endian) -> Step
+    ensures { λ r. ⌜ stepOf (orderOf e) (now (buf .entry)) r ≡ entry (orderOf e) (now (buf .entry)) at (directoryOf (orderOf e) (now (buf .entry)) d) ⌝ }
+{
+    let U16::Value(tag) = read_u16(buf, at, e) else {
+        return Step::Refused(Refusal::Parse);
+    };
+    let U16::Value(ty) = read_u16(buf, at + 2, e) else {
+        return Step::Refused(Refusal::Parse);
+    };
+    let U32::Value(count) = read_u32(buf, at + 4, e) else {
+        return Step::Refused(Refusal::Parse);
+    };
+    entry_by(buf, tag_of(tag), ty, count, at + 8, d, e)
 }

@@ -8,10 +8,10 @@ use mathlib.Core.Path.{_≡_, refl, sym}
 use mathlib.Core.List.{List, [], _∷_}
 use lib.Dec.{leb, T, leb→le, lit≤}
 use lib.ListN.{length}
-use borrow.Author.Tests.{eq-eqb, ne-eqb, leb-true, leb-false, le-leb, lt-leb}
-use Rattle.lsm_format.specs.Answer.{Result, accepted, refused, bind, need, given, parse, decode}
-use Rattle.lsm_format.specs.Numbers.{Order, numberAt, u32At}
-use Rattle.lsm_format.specs.Directory.{among, typeSize, integerSize, valuePlace, scalarPlace, scalar, arrayPlace, numbers, array}
+use borrow.Author.Tests.{eq-eqb, ne-eqb, leb-true, leb-false, le-leb, lt-leb, lt-ltb, le-ltb}
+use Rattle.lsm_format.specs.Answer.{Result, accepted, refused, bind, parse, decode}
+use Rattle.lsm_format.specs.Numbers.{Order, numberAt, u16At, u32At}
+use Rattle.lsm_format.specs.Directory.{among, typeSize, integerSize, valuePlace, scalarPlace, scalar, arrayPlace, numbers, array, Directory, Tag, czLsmInfo, putCz, tagOf, entryBy, entry}
 use Rattle.lsm_format.proofs.Numbers.{number-past, number-there}
 
 -- ---- types
@@ -32,9 +32,10 @@ among-above t b (m ∷ ms) h k = by (leb m b) (leb→le m b) (λ r. among-above 
 -- codes above 12, and 0, are no types
 pub type-above : (t : ℕ) → 12 < t → (typeSize t ≡ 0) × (integerSize t ≡ none)
 unfolding typeSize integerSize
-type-above t h =
-    (rw (among-above t 12 (1 ∷ 2 ∷ 6 ∷ 7 ∷ []) tt h, among-above t 12 (3 ∷ 8 ∷ []) tt h, among-above t 12 (4 ∷ 9 ∷ 11 ∷ []) tt h, among-above t 12 (5 ∷ 10 ∷ 12 ∷ []) tt h),
-      rw (among-above t 12 (1 ∷ 6 ∷ 7 ∷ []) tt h, among-above t 12 (3 ∷ 8 ∷ []) tt h, among-above t 12 (4 ∷ 9 ∷ 11 ∷ []) tt h))
+type-above t h = (
+  rw (among-above t 12 (1 ∷ 2 ∷ 6 ∷ 7 ∷ []) tt h, among-above t 12 (3 ∷ 8 ∷ []) tt h, among-above t 12 (4 ∷ 9 ∷ 11 ∷ []) tt h, among-above t 12 (5 ∷ 10 ∷ 12 ∷ []) tt h),
+  rw (among-above t 12 (1 ∷ 6 ∷ 7 ∷ []) tt h, among-above t 12 (3 ∷ 8 ∷ []) tt h, among-above t 12 (4 ∷ 9 ∷ 11 ∷ []) tt h),
+)
 
 -- the codes from 1 to 7 that are none of 3, 4 and 5 have one byte
 pub type-one : (t : ℕ) → 1 ≤ t → t < 8 → (t ≡ 3 → ⊥) → (t ≡ 4 → ⊥) → (t ≡ 5 → ⊥) → 1 ≡ typeSize t
@@ -164,3 +165,41 @@ module _ (o : Order) (f : List ℕ) (type count place size : ℕ) (is : size ≡
         pub scalar-is : (width : ℕ) → integerSize type ≡ some width → numberAt width o f p ≡ scalar o f type count place
         unfolding scalar scalarPlace bind
         scalar-is width i = rw (← is, ne-eqb size 0 z, ne-eqb count 0 n, e, i)
+
+-- ---- the CZ entry
+
+module _ (o : Order) (f : List ℕ) (type count place total : ℕ) (d : Directory) (is : total ≡ typeSize type * count) where
+  pub cz-small : total ≤ 4 → refused decode ≡ entryBy czLsmInfo o f type count place d
+  unfolding bind
+  cz-small h = rw (← is, le-ltb 4 total h)
+
+  pub cz-no-offset : 4 < total → u32At o f place ≡ refused parse → refused parse ≡ entryBy czLsmInfo o f type count place d
+  unfolding bind
+  cz-no-offset h e = rw (← is, lt-ltb 4 total h, e)
+
+  pub cz-is : 4 < total → (offset : ℕ) → u32At o f place ≡ accepted offset →
+      accepted (putCz offset total d) ≡ entryBy czLsmInfo o f type count place d
+  unfolding bind
+  cz-is h offset e = rw (← is, lt-ltb 4 total h, e)
+
+-- ---- an entry
+
+module _ (o : Order) (f : List ℕ) (e : ℕ) (d : Directory) where
+  pub entry-no-tag : u16At o f e ≡ refused parse → refused parse ≡ entry o f e d
+  unfolding entry bind
+  entry-no-tag h = rw h
+
+  module _ (tag : ℕ) (h : u16At o f e ≡ accepted tag) where
+    pub entry-no-type : u16At o f (e + 2) ≡ refused parse → refused parse ≡ entry o f e d
+    unfolding entry bind
+    entry-no-type i = rw (h, i)
+
+    module _ (type : ℕ) (i : u16At o f (e + 2) ≡ accepted type) where
+      pub entry-no-count : u32At o f (e + 4) ≡ refused parse → refused parse ≡ entry o f e d
+      unfolding entry bind
+      entry-no-count j = rw (h, i, j)
+
+      pub entry-is : (count : ℕ) → u32At o f (e + 4) ≡ accepted count → (t : Tag) → t ≡ tagOf tag →
+          entryBy t o f type count (e + 8) d ≡ entry o f e d
+      unfolding entry bind
+      entry-is count j t k = rw (h, i, j, k)

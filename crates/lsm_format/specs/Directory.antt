@@ -111,35 +111,34 @@ plain =
 
 -- ---- entries
 
--- The tags that are used.
+-- The tags of scalars that are used, and the tags.
+pub data Field : Type 0 where
+  newSubfileType imageWidth imageLength bitsPerSample compression samplesPerPixel planarConfiguration sampleFormat : Field
+
 pub data Tag : Type 0 where
-  newSubfileType imageWidth imageLength bitsPerSample compression stripOffsets samplesPerPixel : Tag
-  stripByteCounts planarConfiguration sampleFormat czLsmInfo other : Tag
+  field : Field → Tag
+  stripOffsets stripByteCounts czLsmInfo other : Tag
 
 abbrev pub tagOf : ℕ → Tag
 tagOf t =
-    cond (eqb t 254) newSubfileType
-    (cond (eqb t 256) imageWidth
-    (cond (eqb t 257) imageLength
-    (cond (eqb t 258) bitsPerSample
-    (cond (eqb t 259) compression
+    cond (eqb t 254) (field newSubfileType)
+    (cond (eqb t 256) (field imageWidth)
+    (cond (eqb t 257) (field imageLength)
+    (cond (eqb t 258) (field bitsPerSample)
+    (cond (eqb t 259) (field compression)
     (cond (eqb t 273) stripOffsets
-    (cond (eqb t 277) samplesPerPixel
+    (cond (eqb t 277) (field samplesPerPixel)
     (cond (eqb t 279) stripByteCounts
-    (cond (eqb t 284) planarConfiguration
-    (cond (eqb t 339) sampleFormat
+    (cond (eqb t 284) (field planarConfiguration)
+    (cond (eqb t 339) (field sampleFormat)
     (cond (eqb t 34412) czLsmInfo other))))))))))
 
 -- "NewSubfileType with bit 0 or 2 set marks a reduced page"
 abbrev pub isReduced : ℕ → Bool
 isReduced v = eqb (v % 2) 1 || eqb (v / 4 % 2) 1
 
--- "SamplesPerPixel, BitsPerSample, SampleFormat or Compression above 65,535, is Decode"
-abbrev pub short : ℕ → Result ℕ
-short v = bind (need decode (leb v 65535)) (λ _. accepted v)
-
 -- The directory with a scalar's value. PlanarConfiguration counts only as being 2 or not.
-abbrev pub put : Tag → ℕ → Directory → Directory
+abbrev pub put : Field → ℕ → Directory → Directory
 put newSubfileType v d = record { reduced = isReduced v; width = d .width; height = d .height; samples = d .samples; bits = d .bits; format = d .format; planar = d .planar; compression = d .compression; offsets = d .offsets; counts = d .counts; cz = d .cz }
 put imageWidth v d = record { reduced = d .reduced; width = v; height = d .height; samples = d .samples; bits = d .bits; format = d .format; planar = d .planar; compression = d .compression; offsets = d .offsets; counts = d .counts; cz = d .cz }
 put imageLength v d = record { reduced = d .reduced; width = d .width; height = v; samples = d .samples; bits = d .bits; format = d .format; planar = d .planar; compression = d .compression; offsets = d .offsets; counts = d .counts; cz = d .cz }
@@ -148,10 +147,20 @@ put compression v d = record { reduced = d .reduced; width = d .width; height = 
 put samplesPerPixel v d = record { reduced = d .reduced; width = d .width; height = d .height; samples = v; bits = d .bits; format = d .format; planar = d .planar; compression = d .compression; offsets = d .offsets; counts = d .counts; cz = d .cz }
 put planarConfiguration v d = record { reduced = d .reduced; width = d .width; height = d .height; samples = d .samples; bits = d .bits; format = d .format; planar = eqb v 2; compression = d .compression; offsets = d .offsets; counts = d .counts; cz = d .cz }
 put sampleFormat v d = record { reduced = d .reduced; width = d .width; height = d .height; samples = d .samples; bits = d .bits; format = v; planar = d .planar; compression = d .compression; offsets = d .offsets; counts = d .counts; cz = d .cz }
-put stripOffsets v d = d
-put stripByteCounts v d = d
-put czLsmInfo v d = d
-put other v d = d
+
+-- "SamplesPerPixel, BitsPerSample, SampleFormat or Compression above 65,535, is Decode"
+abbrev pub isShort : Field → Bool
+isShort newSubfileType = false
+isShort imageWidth = false
+isShort imageLength = false
+isShort bitsPerSample = true
+isShort compression = true
+isShort samplesPerPixel = true
+isShort planarConfiguration = false
+isShort sampleFormat = true
+
+abbrev pub putField : Field → ℕ → Directory → Result Directory
+putField t v d = bind (need decode (not (isShort t) || leb v 65535)) (λ _. accepted (put t v d))
 
 abbrev pub putOffsets : List ℕ → Directory → Directory
 putOffsets a d = record { reduced = d .reduced; width = d .width; height = d .height; samples = d .samples; bits = d .bits; format = d .format; planar = d .planar; compression = d .compression; offsets = a; counts = d .counts; cz = d .cz }
@@ -164,19 +173,7 @@ putCz offset declared d = record { reduced = d .reduced; width = d .width; heigh
 
 -- An entry: its tag, type and count, and the place of its value or offset. "Of a repeated tag the last wins."
 abbrev pub entryBy : Tag → Order → List ℕ → ℕ → ℕ → ℕ → Directory → Result Directory
-entryBy newSubfileType o f type count place d = bind (scalar o f type count place) (λ v. accepted (put newSubfileType v d))
-entryBy imageWidth o f type count place d = bind (scalar o f type count place) (λ v. accepted (put imageWidth v d))
-entryBy imageLength o f type count place d = bind (scalar o f type count place) (λ v. accepted (put imageLength v d))
-entryBy bitsPerSample o f type count place d =
-    bind (scalar o f type count place) (λ v. bind (short v) (λ n. accepted (put bitsPerSample n d)))
-entryBy compression o f type count place d =
-    bind (scalar o f type count place) (λ v. bind (short v) (λ n. accepted (put compression n d)))
-entryBy samplesPerPixel o f type count place d =
-    bind (scalar o f type count place) (λ v. bind (short v) (λ n. accepted (put samplesPerPixel n d)))
-entryBy planarConfiguration o f type count place d =
-    bind (scalar o f type count place) (λ v. accepted (put planarConfiguration v d))
-entryBy sampleFormat o f type count place d =
-    bind (scalar o f type count place) (λ v. bind (short v) (λ n. accepted (put sampleFormat n d)))
+entryBy (field t) o f type count place d = bind (scalar o f type count place) (λ v. putField t v d)
 entryBy stripOffsets o f type count place d = bind (array o f type count place) (λ a. accepted (putOffsets a d))
 entryBy stripByteCounts o f type count place d = bind (array o f type count place) (λ a. accepted (putCounts a d))
 -- "A CZ entry (tag 34412) of at most 4 bytes [..] is Decode", whatever its type.
@@ -218,14 +215,7 @@ abbrev pub arrayRanges : Order → List ℕ → ℕ → ℕ → ℕ → Ranges
 arrayRanges o f type count place = over (arrayPlace o f type count place) (λ v. inFile f (v .0) (v .1 * count))
 
 abbrev pub entryByRanges : Tag → Order → List ℕ → ℕ → ℕ → ℕ → Ranges
-entryByRanges newSubfileType o f type count place = scalarRanges o f type count place
-entryByRanges imageWidth o f type count place = scalarRanges o f type count place
-entryByRanges imageLength o f type count place = scalarRanges o f type count place
-entryByRanges bitsPerSample o f type count place = scalarRanges o f type count place
-entryByRanges compression o f type count place = scalarRanges o f type count place
-entryByRanges samplesPerPixel o f type count place = scalarRanges o f type count place
-entryByRanges planarConfiguration o f type count place = scalarRanges o f type count place
-entryByRanges sampleFormat o f type count place = scalarRanges o f type count place
+entryByRanges (field t) o f type count place = scalarRanges o f type count place
 entryByRanges stripOffsets o f type count place = arrayRanges o f type count place
 entryByRanges stripByteCounts o f type count place = arrayRanges o f type count place
 entryByRanges czLsmInfo o f type count place = nothing

@@ -3,15 +3,14 @@ use Prim.Native.Nat.{ℕ, zero, suc, _+_, _*_, _≤_, _<_}
 use native.Mathlib.Nat.{mul-suc, mul-zero}
 use native.Mathlib.Omega.{arith}
 use mathlib.Core.Bool.{Bool, true, false}
-use mathlib.Core.Path.{_≡_, refl, sym, ap, _∙_}
+use mathlib.Core.Path.{_≡_, refl}
 use mathlib.Core.List.{List}
 use lib.Dec.{leb}
 use lib.ListN.{length}
 use borrow.Author.Tests.{leb-true, leb-false}
-use Rattle.lsm_format.specs.Answer.{Result, accepted, refused, bind, parse}
 use Rattle.lsm_format.specs.Ranges.{inFile, On, Agree}
-use Rattle.lsm_format.specs.Numbers.{Order, numberAt, u32At}
-use Rattle.lsm_format.specs.Directory.{placeBy, valuePlace, scalarPlace, scalar, scalarRanges, arrayPlace, numbers, array, arrayRanges, Directory, plain, Tag, newSubfileType, imageWidth, imageLength, bitsPerSample, compression, stripOffsets, samplesPerPixel, stripByteCounts, planarConfiguration, sampleFormat, czLsmInfo, other, tagOf, entryBy, entryByRanges, entry, entryRanges, entries, entriesRanges, directory, directoryRanges}
+use Rattle.lsm_format.specs.Numbers.{Order}
+use Rattle.lsm_format.specs.Directory.{placeBy, valuePlace, scalarPlace, scalar, scalarRanges, arrayPlace, numbers, array, arrayRanges, Directory, plain, Tag, field, stripOffsets, stripByteCounts, czLsmInfo, other, tagOf, entryBy, entryByRanges, entry, entryRanges, entries, entriesRanges, directory, directoryRanges}
 use Rattle.lsm_format.proofs.Numbers.{number-inside}
 use Rattle.lsm_format.proofs.Directory.{numbers-past}
 use Rattle.lsm_overwrite.proofs.TwoFiles.{bind-law, bind-told, over-law, on-part, in-file-at, number-law, number-listed, number-last}
@@ -77,14 +76,7 @@ module _ (f g : List ℕ) (len : length g ≡ length f) where
   -- an entry by its tag: a scalar, an array, the CZ entry or none
   entry-by-law : (t : Tag) (o : Order) (type count s n p : ℕ) (d : Directory) → On f g s n → (s ≤ p) × (p + 4 ≤ s + n) →
       Agree f g (entryByRanges t o f type count p) → entryBy t o g type count p d ≡ entryBy t o f type count p d
-  entry-by-law newSubfileType o type count s n p d h i a = bind-law _ (scalar-law o type count s n p h i a) (λ v. refl)
-  entry-by-law imageWidth o type count s n p d h i a = bind-law _ (scalar-law o type count s n p h i a) (λ v. refl)
-  entry-by-law imageLength o type count s n p d h i a = bind-law _ (scalar-law o type count s n p h i a) (λ v. refl)
-  entry-by-law bitsPerSample o type count s n p d h i a = bind-law _ (scalar-law o type count s n p h i a) (λ v. refl)
-  entry-by-law compression o type count s n p d h i a = bind-law _ (scalar-law o type count s n p h i a) (λ v. refl)
-  entry-by-law samplesPerPixel o type count s n p d h i a = bind-law _ (scalar-law o type count s n p h i a) (λ v. refl)
-  entry-by-law planarConfiguration o type count s n p d h i a = bind-law _ (scalar-law o type count s n p h i a) (λ v. refl)
-  entry-by-law sampleFormat o type count s n p d h i a = bind-law _ (scalar-law o type count s n p h i a) (λ v. refl)
+  entry-by-law (field t) o type count s n p d h i a = bind-law _ (scalar-law o type count s n p h i a) (λ v. refl)
   entry-by-law stripOffsets o type count s n p d h i a = bind-law _ (array-law o type count s n p h i a) (λ v. refl)
   entry-by-law stripByteCounts o type count s n p d h i a = bind-law _ (array-law o type count s n p h i a) (λ v. refl)
   entry-by-law czLsmInfo o type count s n p d h i a = bind-law _ refl (λ _. bind-law _ (number-law f g len 4 o s n p h i) (λ v. refl))

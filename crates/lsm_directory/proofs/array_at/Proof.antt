@@ -7,65 +7,49 @@ use Rattle.lsm_directory.proofs.Laws.{array-many, array-empty, array-no
 use borrow.Author.Needs.{needs}
 use Rattle.lsm_directory.proofs.array_at.Statement.{statement}
 use Rattle.lsm_directory.proofs.array_at.Tie as tie
-use Rattle.lsm_directory.proofs.array_at.Reads as reads
-use Rattle.lsm_directory.proofs.array_at.Lts as lts
-use Rattle.lsm_directory.proofs.integer_width.Reads as integer-width-reads
-use Rattle.lsm_directory.proofs.width_bytes.Reads as width-bytes-reads
 
--- src/lib.rt:152:9
 returns : tie.Need-returns
 returns c = array-many _ _ _ _ _ (c .if1 .taken)
 
--- src/lib.rt:155:9
 returns-2 : tie.Need-returns-2
 unfolding values
 returns-2 c = array-empty _ _ _ _ _ (c .if2 .taken)
 
--- src/lib.rt:161:30
 integer-width-requires : tie.Need-integer-width-requires
 integer-width-requires c κs = search needs
 
--- src/lib.rt:161:21
 enum-known-width : tie.Need-enum-known-width
 enum-known-width c = search needs
 
--- src/lib.rt:162:37
 enum-told : tie.Need-enum-told
 enum-told c = search needs
 
--- src/lib.rt:162:9
 returns-3 : tie.Need-returns-3
 returns-3 c =
     let i = c .before .before in
     array-no-number _ _ _ _ _ (i .before .before .if1 .left) (i .before .if2 .left) (sym (i .integer-width .ensures) ∙ ap integerOf (c .enum-told .given .1))
 
--- src/lib.rt:165:9
 returns-4 : tie.Need-returns-4
 returns-4 c =
     let w = c .before .before in
     let i = w .before .before in
     array-past _ _ _ _ _ _ (i .before .before .if1 .left) (i .before .if2 .left) (sym (i .integer-width .ensures) ∙ ap integerOf (w .width .given .1)) (omega arith)
 
--- src/lib.rt:167:8
 sub-if4 : tie.Need-sub-if4
 sub-if4 c = search needs
 
--- src/lib.rt:167:28
 width-bytes-requires : tie.Need-width-bytes-requires
 width-bytes-requires c κs = search needs
 
--- src/lib.rt:167:28
 mul-if4 : tie.Need-mul-if4
 mul-if4 c = record { fits = omega (arith, mul-le-mul {n₁ = c .width-bytes .result} {m₁ = c .before .before .before .before .before .before .before .before .before .args .count} {n₂ = 4} {m₂ = 100000} (c .width-bytes .ensures .1) (c .before .before .before .before .before .before .before .if1 .left)) }
 
--- src/lib.rt:168:9
 returns-5 : tie.Need-returns-5
 returns-5 c =
     let w = c .before .before .before .before in
     let i = w .before .before in
     array-past _ _ _ _ _ _ (i .before .before .if1 .left) (i .before .if2 .left) (sym (i .integer-width .ensures) ∙ ap integerOf (w .width .given .1)) (rw (sym (c .before .width-bytes .ensures .0)) (omega arith))
 
--- src/lib.rt:148:1
 returns-6 : tie.Need-returns-6
 returns-6 c =
     let w = c .before .before .before .before in

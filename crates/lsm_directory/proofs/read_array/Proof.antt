@@ -6,44 +6,31 @@ use Rattle.lsm_directory.proofs.Laws.{array-after}
 use borrow.Author.Needs.{needs}
 use Rattle.lsm_directory.proofs.read_array.Statement.{statement}
 use Rattle.lsm_directory.proofs.read_array.Tie as tie
-use Rattle.lsm_directory.proofs.read_array.Reads as reads
-use Rattle.lsm_directory.proofs.read_array.Lts as lts
-use Rattle.lsm_directory.proofs.array_at.Reads as array-at-reads
-use Rattle.lsm_directory.proofs.tiff_type_size.Reads as tiff-type-size-reads
-use Rattle.lsm_directory.proofs.value_place.Reads as value-place-reads
 
--- src/lib.rt:181:9
 tiff-type-size-requires : tie.Need-tiff-type-size-requires
 tiff-type-size-requires c κs = search needs
 
--- src/lib.rt:183:9
 returns : tie.Need-returns
 returns c = array-no-type _ _ _ _ _ _ (c .before .tiff-type-size .ensures) (c .if1 .taken)
 
--- src/lib.rt:185:11
 value-place-requires : tie.Need-value-place-requires
 value-place-requires c κs = omega (arith, type-size-small (c .before .before .before .args .ty), c .before .tiff-type-size .ensures)
 
--- src/lib.rt:186:19
 enum-known-place : tie.Need-enum-known-place
 enum-known-place c = search needs
 
--- src/lib.rt:186:29
 array-at-requires : tie.Need-array-at-requires
 array-at-requires c κs = search needs
 
--- src/lib.rt:187:24
 enum-known-r : tie.Need-enum-known-r
 enum-known-r c = search needs
 
--- src/lib.rt:178:1
 returns-2 : tie.Need-returns-2
 returns-2 c =
     let p = c .before .before in
     let v = p .before .before in
     c .array-at .ensures ∙ array-after _ _ _ _ _ _ _ (v .before .before .tiff-type-size .ensures) (v .before .if1 .left) (sym (v .value-place .ensures) ∙ ap placeOf (p .place .given .1))
 
--- src/lib.rt:178:1
 returns-3 : tie.Need-returns-3
 returns-3 c =
     let v = c .before .before .before in

@@ -4,85 +4,63 @@ use Rattle.lsm_bytes.specs.Code.{u8Of, u16Of}
 use borrow.Author.Needs.{needs}
 use Rattle.lsm_directory.proofs.read_number.Statement.{statement}
 use Rattle.lsm_directory.proofs.read_number.Tie as tie
-use Rattle.lsm_directory.proofs.read_number.Reads as reads
-use Rattle.lsm_directory.proofs.read_number.Lts as lts
-use Rattle.lsm_bytes.proofs.read_u16.Reads as read-u16-reads
-use Rattle.lsm_bytes.proofs.read_u32.Reads as read-u32-reads
-use Rattle.lsm_bytes.proofs.read_u8.Reads as read-u8-reads
 
--- src/lib.rt:63:29
 enum-told : tie.Need-enum-told
 enum-told c = search needs
 
--- src/lib.rt:63:29
 read-u8-requires : tie.Need-read-u8-requires
 read-u8-requires c κs = search needs
 
--- src/lib.rt:64:23
 enum-known-n : tie.Need-enum-known-n
 enum-known-n c = search needs
 
--- src/lib.rt:64:40
 cast-t10 : tie.Need-cast-t10
 cast-t10 c = search needs
 
--- src/lib.rt:65:26
 enum-told-2 : tie.Need-enum-told-2
 enum-told-2 c = search needs
 
--- src/lib.rt:67:29
 enum-told-3 : tie.Need-enum-told-3
 enum-told-3 c = search needs
 
--- src/lib.rt:67:29
 read-u16-requires : tie.Need-read-u16-requires
 read-u16-requires c κs = search needs
 
--- src/lib.rt:68:24
 enum-known-n-2 : tie.Need-enum-known-n-2
 enum-known-n-2 c = search needs
 
--- src/lib.rt:68:41
 cast-t13 : tie.Need-cast-t13
 cast-t13 c = search needs
 
--- src/lib.rt:69:27
 enum-told-4 : tie.Need-enum-told-4
 enum-told-4 c = search needs
 
--- src/lib.rt:71:24
 enum-told-5 : tie.Need-enum-told-5
 enum-told-5 c = search needs
 
--- src/lib.rt:71:24
 read-u32-requires : tie.Need-read-u32-requires
 read-u32-requires c κs = search needs
 
--- src/lib.rt:59:1
 returns : tie.Need-returns
 returns c =
     let r = c .before .before .before in
     rw (r .before .enum-told .given .1) (sym (ap u8Of (c .before .n .given .1)) ∙ r .read-u8 .ensures ∙ number-byte _ _ _)
 
--- src/lib.rt:59:1
 returns-2 : tie.Need-returns-2
 returns-2 c =
     let r = c .before .before in
     rw (r .before .enum-told .given .1) (sym (ap u8Of (c .enum-told2 .given .1)) ∙ r .read-u8 .ensures ∙ number-byte _ _ _)
 
--- src/lib.rt:59:1
 returns-3 : tie.Need-returns-3
 returns-3 c =
     let r = c .before .before .before in
     rw (r .before .enum-told3 .given .1) (sym (ap u16Of (c .before .n2 .given .1)) ∙ r .read-u16 .ensures)
 
--- src/lib.rt:59:1
 returns-4 : tie.Need-returns-4
 returns-4 c =
     let r = c .before .before in
     rw (r .before .enum-told3 .given .1) (sym (ap u16Of (c .enum-told4 .given .1)) ∙ r .read-u16 .ensures)
 
--- src/lib.rt:59:1
 returns-5 : tie.Need-returns-5
 returns-5 c = rw (c .before .enum-told5 .given .1) (c .read-u32 .ensures)
 

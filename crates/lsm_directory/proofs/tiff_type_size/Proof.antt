@@ -5,36 +5,28 @@ use Rattle.lsm_format.specs.Directory.{typeSize}
 use Rattle.lsm_format.proofs.Directory.{type-one, type-above}
 use Rattle.lsm_directory.proofs.tiff_type_size.Statement.{statement}
 use Rattle.lsm_directory.proofs.tiff_type_size.Tie as tie
-use Rattle.lsm_directory.proofs.tiff_type_size.Reads as reads
-use Rattle.lsm_directory.proofs.tiff_type_size.Lts as lts
 
--- src/lib.rt:34:1
 returns : tie.Need-returns
 unfolding typeSize
 returns c = ⊎-elim (λ e. rw e) (λ e. rw e) (c .match .keys1)
 
--- src/lib.rt:34:1
 returns-2 : tie.Need-returns-2
 unfolding typeSize
 returns-2 c = ⊎-elim (λ e. rw e) (λ w. ⊎-elim (λ e. rw e) (λ e. rw e) w) (c .match .keys2)
 
--- src/lib.rt:34:1
 returns-3 : tie.Need-returns-3
 unfolding typeSize
 returns-3 c = ⊎-elim (λ e. rw e) (λ w. ⊎-elim (λ e. rw e) (λ e. rw e) w) (c .match .keys3)
 
--- src/lib.rt:34:1
 returns-4 : tie.Need-returns-4
 returns-4 c =
     let r = c .before .before .match .rest in
     type-one (c .before .before .before .args .ty) (omega arith) (c .if2 .taken) (λ e. r .0 .0 .1 (inl e)) (λ e. r .0 .1 (inl e)) (λ e. r .1 (inl e))
 
--- src/lib.rt:34:1
 returns-5 : tie.Need-returns-5
 unfolding typeSize
 returns-5 c = let z : c .before .before .args .ty ≡ 0 = omega arith in rw z
 
--- src/lib.rt:34:1
 returns-6 : tie.Need-returns-6
 returns-6 c =
     let t = c .before .before .before .args .ty in

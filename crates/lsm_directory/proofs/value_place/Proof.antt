@@ -7,41 +7,30 @@ use Rattle.lsm_bytes.specs.Code.{u32Of}
 use borrow.Author.Needs.{needs}
 use Rattle.lsm_directory.proofs.value_place.Statement.{statement}
 use Rattle.lsm_directory.proofs.value_place.Tie as tie
-use Rattle.lsm_directory.proofs.value_place.Reads as reads
-use Rattle.lsm_directory.proofs.value_place.Lts as lts
-use Rattle.lsm_bytes.proofs.read_u32.Reads as read-u32-reads
 
--- src/lib.rt:85:8
 mul-if1 : tie.Need-mul-if1
 mul-if1 c = record { fits = omega (arith, mul-le-mul {n₁ = c .before .args .size} {m₁ = c .before .args .count} {n₂ = 8} {m₂ = 2 ^ 32} (c .before .pre) (omega arith)) }
 
--- src/lib.rt:86:9
 returns : tie.Need-returns
 returns c = place-in-entry _ _ _ _ _ (c .if1 .taken)
 
--- src/lib.rt:88:11
 read-u32-requires : tie.Need-read-u32-requires
 read-u32-requires c κs = search needs
 
--- src/lib.rt:89:20
 enum-known-p : tie.Need-enum-known-p
 enum-known-p c = search needs
 
--- src/lib.rt:89:36
 cast-t12 : tie.Need-cast-t12
 cast-t12 c = search needs
 
--- src/lib.rt:90:38
 enum-told : tie.Need-enum-told
 enum-told c = search needs
 
--- src/lib.rt:81:1
 returns-2 : tie.Need-returns-2
 returns-2 c =
     let r = c .before .before .before in
     place-by-offset _ _ _ _ _ _ (r .before .if1 .left) (sym (r .read-u32 .ensures) ∙ ap u32Of (c .before .p .given .1))
 
--- src/lib.rt:81:1
 returns-3 : tie.Need-returns-3
 returns-3 c =
     let r = c .before .before in
