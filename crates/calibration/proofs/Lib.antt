@@ -6,3 +6,4 @@ pub mod Limbs
 pub mod Tens
 pub mod Texts
 pub mod Fractions
+pub mod Steps

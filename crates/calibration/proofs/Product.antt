@@ -14,7 +14,7 @@ use Rattle.lsm_format.specs.Calibration.{million, narrow, micrometres}
 
 -- ---- no NaN
 
-abbrev Number : Float → Type 0
+abbrev pub Number : Float → Type 0
 Number v = T (not (isNan v))
 
 odd-number : (d : ℕ) (s : Bool) (q k l : ℕ) → Number (odd d s q k l)
@@ -66,11 +66,12 @@ is-nan nan h = refl
 is-nan (inf s) h = absurd (subst T (sym h) tt)
 is-nan (fin s m e) h = absurd (subst T (sym h) tt)
 
+pub pattern-nan : (b : ℕ) → 0x7ff0_0000_0000_0000 < bitAnd b 0x7fff_ffff_ffff_ffff → ofBits binary64 b ≡ nan
+pattern-nan b h = is-nan (ofBits binary64 b) (sym (nanBits-is binary64 b) ∙ tested b ∙ lt-ltb _ _ h)
+
 pub refused : (b : ℕ) → 0x7ff0_0000_0000_0000 < bitAnd b 0x7fff_ffff_ffff_ffff → nan ≡ micrometres b
 unfolding micrometres narrow mul
-refused b h =
-    let e : ofBits binary64 b ≡ nan = is-nan (ofBits binary64 b) (sym (nanBits-is binary64 b) ∙ tested b ∙ lt-ltb _ _ h) in
-    sym (ap (λ (v : Float). narrow (mul binary64 v million)) e)
+refused b h = sym (ap (λ (v : Float). narrow (mul binary64 v million)) (pattern-nan b h))
 
 pub taken : (b : ℕ) → bitAnd b 0x7fff_ffff_ffff_ffff ≤ 0x7ff0_0000_0000_0000 → T (not (nanBits binary64 b))
 taken b h = subst (λ (t : Bool). T (not t)) (sym (tested b ∙ le-ltb _ _ h)) tt
@@ -107,3 +108,8 @@ narrowed-number b r h e =
     let v = ofBits binary64 b in
     rw (nanBits-is binary32 r, narrowed b r e)
     (narrow-number (mul binary64 v million) (mul-number v (rw (nanBits-is binary64 b) at h)))
+
+-- what is no NaN has no NaN's micrometres
+pub micrometres-number : (b : ℕ) → Number (ofBits binary64 b) → Number (micrometres b)
+unfolding micrometres
+micrometres-number b h = narrow-number (mul binary64 (ofBits binary64 b) million) (mul-number (ofBits binary64 b) h)

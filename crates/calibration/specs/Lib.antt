@@ -1,3 +1,4 @@
 pub mod Code
 pub mod Figured
 pub mod Wide
+pub mod Calibrated

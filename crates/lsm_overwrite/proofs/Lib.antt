@@ -1,2 +1,5 @@
 pub mod TwoFiles
+pub mod CzInfo
+pub mod Channels
 pub mod Directory
+pub mod Open

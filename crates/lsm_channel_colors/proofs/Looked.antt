@@ -1,0 +1,129 @@
+-- Laws of what the lookup's functions answer, a case each. Assumes nothing.
+use Prim.Native.Nat.{ℕ, _+_, _-_, _≤_, _<_}
+use native.Mathlib.Omega.{arith}
+use mathlib.Core.Path.{_≡_, sym, ap, _∙_, subst}
+use mathlib.Core.Option.{Option, none, some}
+use mathlib.Core.List.{List}
+use lib.IntN.{ℤ}
+use lib.ListN.{length, take, drop}
+use Rattle.lsm_format.specs.Answer.{Result, accepted, refused, bind, parse, outOfRange}
+use Rattle.lsm_format.specs.Code.{rowOf}
+use Rattle.lsm_format.specs.Numbers.{Order}
+use Rattle.lsm_format.specs.Utf8.{lossy}
+use Rattle.lsm_format.specs.Channels as Rule
+use Rattle.lsm_format.specs.Channels.{pointers, color, recordOf, trimmed, name, channelIn, lookup}
+use Rattle.lsm_format.specs.declared.error.Refusal.{Refusal}
+use Rattle.lsm_format.proofs.Channels.{channel-inside, name-past, name-none, name-long, name-given, channel-unread, channel-there, lookup-outside, memory-outside, lookup-nameless, memory-nameless, lookup-named, memory-named}
+use Rattle.utf8.specs.Code.{decodedOf, Decoding}
+use Rattle.utf8.specs.declared.Decoded.{Decoded}
+use Rattle.utf8.specs.declared.Decoded.the-variants.{Length, Refused}
+use Rattle.utf8.proofs.Lent.{told-length}
+use Rattle.lsm_channel_colors.specs.Code.{colorOf, Looked}
+use Rattle.lsm_channel_colors.specs.Parts.{pointed, spanOf, textIn, Inside, Trimming, Named, Stating}
+use Rattle.lsm_channel_colors.specs.declared.Color.{Color}
+use Rattle.lsm_channel_colors.specs.declared.Color.the-variants.{Absent as NoColor}
+use Rattle.lsm_channel_colors.specs.declared.Record.{Record}
+use Rattle.lsm_channel_colors.specs.declared.Record.the-variants.{Absent, At}
+use Rattle.lsm_channel_colors.specs.declared.Stated.{Stated}
+use Rattle.lsm_channel_colors.proofs.Signed.{pointed-is, no-names}
+
+-- ---- where a channel's name stands: no pointer; a pointer past the end; no record; one that is too long; one that is given
+
+pub named-nowhere : (o : Order) (f : List ℕ) (block : ℕ) (z : ℤ) (channel : ℕ) → pointed z ≡ none → Named o f block z channel none
+named-nowhere o f block z channel e = record { text = no-names o f block z channel e; inside = tt }
+
+module _ (o : Order) (f : List ℕ) (block : ℕ) (z : ℤ) (channel n : ℕ) (e : pointed z ≡ some n) where
+  pub named-past : length f < block + n → Named o f block z channel none
+  named-past h =
+      let q = pointed-is z n e in
+      record { text = rw (q .0) (name-past o f block n channel (q .1) (omega arith)); inside = tt }
+
+  pub named-none : (first : ℕ) → first ≡ block + n → recordOf o f first channel ≡ none → Named o f block z channel none
+  named-none first w r =
+      let q = pointed-is z n e in
+      record { text = rw (q .0) (name-none o f block n channel (q .1) (rw w at r)); inside = tt }
+
+  pub named-long : (first s l : ℕ) → first ≡ block + n → recordOf o f first channel ≡ some (s, l) → 1024 < l → Named o f block z channel none
+  named-long first s l w r h =
+      let q = pointed-is z n e in
+      record { text = rw (q .0) (name-long o f block n channel (q .1) s l (rw w at r) h); inside = tt }
+
+  pub named-given : (first s l : ℕ) → first ≡ block + n → recordOf o f first channel ≡ some (s, l) → l ≤ 1024 → Named o f block z channel (some (s, l))
+  named-given first s l w r h =
+      let q = pointed-is z n e in
+      record { text = rw (q .0) (name-given o f block n channel (q .1) s l (rw w at r) h); inside = channel-inside o f channel first s l r }
+
+-- ---- what the file states of a channel: no block; no pointers; both pointers
+
+module _ (o : Order) (f : List ℕ) (block : Option ℕ) (channel : ℕ) where
+  pub stating-nowhere : block ≡ none → Stating o f block channel (record { color = NoColor; name = Absent })
+  unfolding channelIn
+  stating-nowhere e = record { color = rw e; text = rw e; inside = tt }
+
+  pub stating-unread : (place : ℕ) → block ≡ some place → pointers o f place ≡ refused parse →
+      Stating o f block channel (record { color = NoColor; name = Absent })
+  stating-unread place e p = record {
+    color = rw (e, channel-unread o f place channel p);
+    text = rw (e, channel-unread o f place channel p);
+    inside = tt;
+  }
+
+  pub stating-there : (place : ℕ) (a b : ℤ) (c : Color) (n : Record) → block ≡ some place → pointers o f place ≡ accepted (a, b) →
+      colorOf c ≡ color f place a channel → Named o f place b channel (spanOf n) → Stating o f block channel (record { color = c; name = n })
+  stating-there place a b c n e p h k = record {
+    color = rw (e, channel-there o f place channel a b p) h;
+    text = rw (e, channel-there o f place channel a b p) (k .text);
+    inside = k .inside;
+  }
+
+-- ---- a name's bytes
+
+pub inside-of : (f : List ℕ) {r : Record} {start len : ℕ} → Inside f (spanOf r) → r ≡ At start len → start + len ≤ length f
+inside-of f i e = subst (λ (x : Record). Inside f (spanOf x)) e i
+
+pub trimmed-decoding : (f : List ℕ) (start len r : ℕ) {before after : List ℕ} {answer : Result ℕ} → Trimming f start len r →
+    Decoding (take (start + r - start) (drop start f)) before after answer → Decoding (trimmed (take len (drop start f))) before after answer
+trimmed-decoding f start len r t d = let q : start + r - start ≡ r = omega arith in rw (q, t .is) at d
+
+-- ---- the lookup: no such channel; one without a name; one with a name; a name without room
+
+module _ (o : Order) (f : List ℕ) (block : Option ℕ) (channels channel : ℕ) where
+  pub looked-outside : (before : List ℕ) → channels ≤ channel → Looked o f block channels channel before before (refused (outOfRange 0 0 channel 0))
+  looked-outside before h = record {
+    answered = rw (lookup-outside o f block channels channel (length before) h);
+    memory = sym (memory-outside o f block channels channel before h);
+  }
+
+  module _ (s : Stated) (h : channel < channels) (g : Stating o f block channel s) where
+    pub looked-nameless : (before : List ℕ) → s .name ≡ Absent →
+        Looked o f block channels channel before before (accepted (record { color = colorOf (s .color); name = none }))
+    looked-nameless before e =
+        let t : channelIn o f block channel .name ≡ none = sym (g .text) ∙ ap (λ (r : Record). textIn f (spanOf r)) e in
+        record {
+          answered = rw (lookup-nameless o f block channels channel (length before) h t, t, ← g .color);
+          memory = sym (memory-nameless o f block channels channel before h t);
+        }
+
+    module _ (before after : List ℕ) (start len : ℕ) (e : s .name ≡ At start len) (d : Decoded)
+        (k : Decoding (trimmed (take len (drop start f))) before after (decodedOf d)) where
+      text-of : channelIn o f block channel .name ≡ some (lossy (trimmed (take len (drop start f))))
+      text-of = sym (g .text) ∙ ap (λ (r : Record). textIn f (spanOf r)) e
+
+      answer-of : lookup o f block channels channel (length before) ≡ bind (decodedOf d) (λ _. accepted (channelIn o f block channel))
+      answer-of =
+          lookup-named o f block channels channel (length before) _ h text-of
+          ∙ ap (λ (x : Result ℕ). bind x (λ _. accepted (channelIn o f block channel))) (sym (k .answered))
+
+      memory-of : after ≡ Rule.lookupMemory o f block channels channel before
+      memory-of = k .memory ∙ sym (memory-named o f block channels channel before _ h text-of)
+
+      pub looked-named : (n : ℕ) → d ≡ Length n →
+          Looked o f block channels channel before after (accepted (record { color = colorOf (s .color); name = some n }))
+      unfolding bind
+      looked-named n v =
+          let l : n ≡ length (lossy (trimmed (take len (drop start f)))) = told-length k v .0 in
+          record { answered = rw (answer-of, v, text-of, ← g .color, l); memory = memory-of }
+
+      pub looked-short : (r : Refusal) → d ≡ Refused r → Looked o f block channels channel before after (refused (rowOf r))
+      unfolding bind
+      looked-short r v = record { answered = rw (answer-of, v); memory = memory-of }

@@ -1,0 +1,80 @@
+-- `lsm_replay::compare` meets its contract: a line takes a byte at least. Assumes nothing.
+use Prim.Native.Nat.{_-_, _≤_}
+use borrow.Author.Needs.{needs}
+use lib.ListN.{length}
+use Rattle.lsm_replay.proofs.compare.Statement.{statement}
+use Rattle.lsm_replay.proofs.compare.Tie as tie
+
+abbrev Inv-loop : tie.InvT-loop
+Inv-loop text ground₀ voxels₀ blocks₀ at₀ ground voxels blocks at =
+    (at ≤ length text) × (ground .cases ≤ at) × (ground .differ ≤ ground .cases) × (voxels .cases ≤ at) × (voxels .differ ≤ voxels .cases) × (blocks .cases ≤ at) × (blocks .differ ≤ blocks .cases)
+
+abbrev μ-loop : tie.MeasureT-loop
+μ-loop text ground₀ voxels₀ blocks₀ at₀ ground voxels blocks at = length text - at
+
+none-requires : tie.Need-none-requires Inv-loop μ-loop
+none-requires c κs = search needs
+
+none-requires-2 : tie.Need-none-requires-2 Inv-loop μ-loop
+none-requires-2 c κs = search needs
+
+none-requires-3 : tie.Need-none-requires-3 Inv-loop μ-loop
+none-requires-3 c κs = search needs
+
+loop-holds : tie.Need-loop-holds Inv-loop μ-loop
+loop-holds c = search needs
+
+line-at-requires : tie.Need-line-at-requires Inv-loop μ-loop
+line-at-requires c κs = search needs
+
+counted-requires : tie.Need-counted-requires Inv-loop μ-loop
+counted-requires c κs = search needs
+
+loop-less : tie.Need-loop-less Inv-loop μ-loop
+loop-less c = search needs
+
+loop-again : tie.Need-loop-again Inv-loop μ-loop
+loop-again c = search needs
+
+counted-requires-2 : tie.Need-counted-requires-2 Inv-loop μ-loop
+counted-requires-2 c κs = search needs
+
+loop-less-2 : tie.Need-loop-less-2 Inv-loop μ-loop
+loop-less-2 c = search needs
+
+loop-again-2 : tie.Need-loop-again-2 Inv-loop μ-loop
+loop-again-2 c = search needs
+
+counted-requires-3 : tie.Need-counted-requires-3 Inv-loop μ-loop
+counted-requires-3 c κs = search needs
+
+loop-less-3 : tie.Need-loop-less-3 Inv-loop μ-loop
+loop-less-3 c = search needs
+
+loop-again-3 : tie.Need-loop-again-3 Inv-loop μ-loop
+loop-again-3 c = search needs
+
+returns : tie.Need-returns Inv-loop μ-loop
+returns c = search needs
+
+pub compare-spec : {M : Type 1} → statement M
+compare-spec =
+    tie.close
+    (tie.spec
+    Inv-loop
+    μ-loop
+    none-requires
+    none-requires-2
+    none-requires-3
+    loop-holds
+    line-at-requires
+    counted-requires
+    loop-less
+    loop-again
+    counted-requires-2
+    loop-less-2
+    loop-again-2
+    counted-requires-3
+    loop-less-3
+    loop-again-3
+    returns)

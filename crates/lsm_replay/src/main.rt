@@ -1,0 +1,134 @@
+// Asks the ported functions what standard input says that the Rust was asked, and compares every number of the answers. A line
+// is as vector_text has it; tools/record writes the list, and its README.md says what the numbers are.
+use crate::cz::block;
+use crate::ground::ground;
+use crate::voxels::voxels;
+use libc::STDIN_FILENO;
+use libc::STDOUT_FILENO;
+use vector_text::Row;
+use vector_text::row_at;
+ghost use mathlib.Core.Path.{_≡_};
+ghost use Prim.Native.Nat.{_+_, _<_, _≤_};
+ghost use lib.ListN.{length};
+
+mod answer;
+mod cz;
+mod ground;
+mod voxels;
+
+// How many lines of a list there were, and how many differ.
+struct Tally {
+    cases: usize,
+    differ: usize,
+}
+
+impl Tally {
+    fn none() -> Tally
+        ensures { λ r. ⌜ (r .cases ≡ 0) × (r .differ ≡ 0) ⌝ }
+    {
+        Tally {
+            cases: 0,
+            differ: 0,
+        }
+    }
+
+    fn counted(self, agrees: bool) -> Tally
+        requires { ⌜ (self .differ ≤ self .cases) × (self .cases + 1 < 18446744073709551616) ⌝ }
+        ensures { λ r. ⌜ (r .cases ≡ self .cases + 1) × (r .differ ≤ r .cases) ⌝ }
+    {
+        if agrees {
+            return Tally {
+                cases: self.cases + 1,
+                differ: self.differ,
+            };
+        }
+        Tally {
+            cases: self.cases + 1,
+            differ: self.differ + 1,
+        }
+    }
+}
+
+// Whether the answer is the line's. A letter that stands for nothing differs.
+fn agrees(row: Row, bytes: &[u8]) -> bool
+    requires { ⌜ row .count ≤ 20 ⌝ }
+{
+    if row.kind == b'c' {
+        return voxels(row);
+    }
+    if row.kind == b'z' {
+        return block(row, bytes);
+    }
+    ground(row, bytes)
+}
+
+// A line: its letter, whether the answer is as it says, and where the next begins.
+struct Line {
+    kind: u8,
+    agrees: bool,
+    next: usize,
+}
+
+fn line_at(text: &[u8], at: usize) -> Line
+    requires { ⌜ at < length (now text) ⌝ }
+    ensures { λ r. ⌜ (at < r .next) × (r .next ≤ length (now (text .entry))) ⌝ }
+{
+    let mut bytes = [0u8; 320];
+    let row = row_at(text, at, &mut bytes);
+    let len = row.len;
+    Line {
+        kind: row.kind,
+        agrees: agrees(row, &bytes[..len]),
+        next: row.next,
+    }
+}
+
+struct Tallies {
+    ground: Tally,
+    voxels: Tally,
+    blocks: Tally,
+}
+
+fn compare(text: &[u8]) -> Tallies
+    ensures { λ r. ⌜ (r .ground .cases ≤ length (now (text .entry))) × (r .ground .differ ≤ r .ground .cases) ⌝ }
+    ensures { λ r. ⌜ (r .voxels .cases ≤ length (now (text .entry))) × (r .voxels .differ ≤ r .voxels .cases) ⌝ }
+    ensures { λ r. ⌜ (r .blocks .cases ≤ length (now (text .entry))) × (r .blocks .differ ≤ r .blocks .cases) ⌝ }
+{
+    let mut ground = Tally::none();
+    let mut voxels = Tally::none();
+    let mut blocks = Tally::none();
+    let mut at = 0;
+    while at < text.len() {
+        let l = line_at(text, at);
+        at = l.next;
+        if l.kind == b'c' {
+            voxels = voxels.counted(l.agrees);
+        } else if l.kind == b'z' {
+            blocks = blocks.counted(l.agrees);
+        } else {
+            ground = ground.counted(l.agrees);
+        }
+    }
+    Tallies {
+        ground,
+        voxels,
+        blocks,
+    }
+}
+
+fn report(name: &[u8], t: Tally) {
+    io::write_all(STDOUT_FILENO, name);
+    io::print_decimal(STDOUT_FILENO, t.cases as u64);
+    io::write_all(STDOUT_FILENO, b", ");
+    io::print_decimal(STDOUT_FILENO, t.differ as u64);
+    io::write_all(STDOUT_FILENO, b" differ\n");
+}
+
+fn main() {
+    let mut text = [0u8; 524288];
+    let n = io::read_full(STDIN_FILENO, &mut text);
+    let t = compare(&text[..n]);
+    report(b"ground ", t.ground);
+    report(b"calibration ", t.voxels);
+    report(b"cz ", t.blocks);
+}

@@ -1,0 +1,219 @@
+// The lines of a list of recorded answers. A line is a letter, then hexadecimal numbers with a space before each, then a colon and
+// bytes where the case has any. Two digits are a byte, and `*NNBB` is NN bytes BB.
+ghost use mathlib.Core.Path.{_≡_};
+ghost use mathlib.Core.Bool.{true};
+ghost use Prim.Native.Nat.{_+_, _<_, _≤_};
+ghost use lib.ListN.{length};
+ghost use Rattle.io.specs.Counts.{Counts};
+
+// The value of a hexadecimal digit; 16 for another byte.
+fn digit(b: u8) -> u8
+    ensures { λ r. ⌜ r ≤ 16 ⌝ }
+{
+    match b {
+        b'0'..=b'9' => b - b'0',
+        b'a'..=b'f' => b - b'a' + 10,
+        _ => 16,
+    }
+}
+
+// Whether a byte stands at a place.
+pub fn holds(text: &[u8], at: usize, b: u8) -> bool
+    ensures { λ r. ⌜ (r ≡ true → at < length (now (text .entry))) ⌝ }
+{
+    if at < text.len() {
+        text[at] == b
+    } else {
+        false
+    }
+}
+
+pub struct Number {
+    pub value: usize,
+    pub next: usize,
+}
+
+// The number at a place, and where it ends: at the place itself where there is none. A digit that would pass 64 bits ends it.
+pub fn number_at(text: &[u8], from: usize) -> Number
+    requires { ⌜ from ≤ length (now text) ⌝ }
+    ensures { λ r. ⌜ (from ≤ r .next) × (r .next ≤ length (now (text .entry))) ⌝ }
+{
+    let mut value: usize = 0;
+    let mut at = from;
+    while at < text.len() {
+        let d = digit(text[at]);
+        if d == 16 {
+            return Number { value, next: at };
+        }
+        if 0x0fff_ffff_ffff_ffff < value {
+            return Number { value, next: at };
+        }
+        value = value * 16 + d as usize;
+        at += 1;
+    }
+    Number { value, next: at }
+}
+
+// The byte that two digits at a place are; 256 where they are not there.
+fn pair(text: &[u8], at: usize) -> usize
+    ensures { λ r. ⌜ (r ≤ 256) × (r < 256 → at + 2 ≤ length (now (text .entry))) ⌝ }
+{
+    if text.len() < 2 {
+        return 256;
+    }
+    if text.len() - 2 < at {
+        return 256;
+    }
+    let high = digit(text[at]);
+    let low = digit(text[at + 1]);
+    if high == 16 {
+        return 256;
+    }
+    if low == 16 {
+        return 256;
+    }
+    (high * 16 + low) as usize
+}
+
+// A byte as often as it stands one after the other; `times` is 0 where there is none.
+struct Run {
+    times: usize,
+    byte: u8,
+    next: usize,
+}
+
+fn run_at(text: &[u8], at: usize) -> Run
+    requires { ⌜ at ≤ length (now text) ⌝ }
+    ensures { λ r. ⌜ (at ≤ r .next) × (r .next ≤ length (now (text .entry))) ⌝ }
+{
+    let none = Run {
+        times: 0,
+        byte: 0,
+        next: at,
+    };
+    if holds(text, at, b'*') {
+        let times = pair(text, at + 1);
+        if times == 256 {
+            return none;
+        }
+        let b = pair(text, at + 3);
+        if b == 256 {
+            return none;
+        }
+        return Run {
+            times,
+            byte: b as u8,
+            next: at + 5,
+        };
+    }
+    let b = pair(text, at);
+    if b == 256 {
+        return none;
+    }
+    Run {
+        times: 1,
+        byte: b as u8,
+        next: at + 2,
+    }
+}
+
+// Writes a byte over a part.
+fn fill(bytes: &mut [u8], from: usize, end: usize, b: u8)
+    requires { ⌜ end ≤ length (now bytes) ⌝ }
+{
+    let mut i = from;
+    while i < end {
+        bytes[i] = b;
+        i += 1;
+    }
+}
+
+pub struct Field {
+    pub count: usize,
+    pub next: usize,
+}
+
+// Reads bytes from a place on: how many there were, and where they end.
+pub fn bytes_at(text: &[u8], from: usize, bytes: &mut [u8]) -> Field
+    requires { ⌜ from ≤ length (now text) ⌝ }
+    ensures { λ r. ⌜ Counts (r .count) (now (bytes .exit)) ⌝ }
+    ensures { λ r. ⌜ (from ≤ r .next) × (r .next ≤ length (now (text .entry))) ⌝ }
+{
+    let mut at = from;
+    let mut n = 0;
+    while n < bytes.len() {
+        let run = run_at(text, at);
+        if run.times == 0 {
+            return Field { count: n, next: at };
+        }
+        if bytes.len() - n < run.times {
+            return Field { count: n, next: at };
+        }
+        fill(bytes, n, n + run.times, run.byte);
+        n += run.times;
+        at = run.next;
+    }
+    Field { count: n, next: at }
+}
+
+// The bytes after a colon; none where there is no colon.
+fn tail_at(text: &[u8], at: usize, bytes: &mut [u8]) -> Field
+    requires { ⌜ at ≤ length (now text) ⌝ }
+    ensures { λ r. ⌜ Counts (r .count) (now (bytes .exit)) ⌝ }
+    ensures { λ r. ⌜ (at ≤ r .next) × (r .next ≤ length (now (text .entry))) ⌝ }
+{
+    if holds(text, at, b':') {
+        return bytes_at(text, at + 1, bytes);
+    }
+    Field { count: 0, next: at }
+}
+
+// A line: its letter, the first `count` of the numbers, and how many bytes it has. `count` is 0 where it hasn't the form.
+pub struct Row {
+    pub kind: u8,
+    pub numbers: [usize; 20],
+    pub count: usize,
+    pub len: usize,
+    pub next: usize,
+}
+
+// The line at a place, its bytes in lent memory. One that hasn't the form ends the list.
+pub fn row_at(text: &[u8], at: usize, bytes: &mut [u8]) -> Row
+    requires { ⌜ at < length (now text) ⌝ }
+    ensures { λ r. ⌜ Counts (r .len) (now (bytes .exit)) ⌝ }
+    ensures { λ r. ⌜ (at < r .next) × (r .next ≤ length (now (text .entry))) × (r .count ≤ 20) ⌝ }
+{
+    let kind = text[at];
+    let mut numbers = [0usize; 20];
+    let mut count: usize = 0;
+    let mut place = at + 1;
+    while count < 20 {
+        if !holds(text, place, b' ') {
+            break;
+        }
+        let n = number_at(text, place + 1);
+        if n.next == place + 1 {
+            break;
+        }
+        numbers[count] = n.value;
+        count += 1;
+        place = n.next;
+    }
+    let f = tail_at(text, place, bytes);
+    if !holds(text, f.next, b'\n') {
+        return Row {
+            kind,
+            numbers,
+            count: 0,
+            len: 0,
+            next: text.len(),
+        };
+    }
+    Row {
+        kind,
+        numbers,
+        count,
+        len: f.count,
+        next: f.next + 1,
+    }
+}
