@@ -182,7 +182,7 @@ impl List {
         }
     }
 
-    // The largest f32, half a step above it, 2^128, and products that pass the largest double.
+    // The largest f32, half a step above it, 2^128, whole steps above that, and products that pass the largest double.
     fn overflow(&mut self) {
         let half = between(0x7f7f_ffff);
         let largest = metres(0x7f7f_ffff).to_bits();
@@ -198,6 +198,10 @@ impl List {
                 self.case(a, v | 1 << 63, b);
                 self.case(a, b, v | 1 << 63);
             }
+        }
+        for k in 1..6 {
+            let v = (2f64.powi(128) + k as f64 * 2f64.powi(105)) / 1e6;
+            self.turned([v.to_bits(); 3]);
         }
     }
 

@@ -48,7 +48,7 @@ struct List {
 }
 
 // z ORDER OFFSET DECLARED ANSWER:FILE. The answer is a refusal, or 0, X, Y, Z, channels, T, P, M (the two last as the u32 of the
-// same bits), the channel block's place or 0, and the calibration.
+// same bits), the channel block's place or 2^32, and the calibration.
 pub fn list() -> String {
     let mut list = List { random: Random(SEED), text: String::new() };
     list.lengths();
@@ -67,7 +67,7 @@ impl List {
             Ok(i) => {
                 let mut row = vec![0];
                 row.extend([i.dim_x, i.dim_y, i.dim_z, i.dim_channels, i.dim_time, i.dim_p, i.dim_m].map(|n| n as u32 as u64));
-                row.push(i.channel_colors_offset.map_or(0, |at| at as u64));
+                row.push(i.channel_colors_offset.map_or(1 << 32, |at| at as u64));
                 row.extend(calibration(&i.calibration));
                 row
             }
@@ -89,7 +89,8 @@ impl List {
     }
 
     fn voxel(&mut self) -> u64 {
-        let v: f64 = self.random.of(&[1e-7, 2.5e-7, 1e-19, 0.5, 3e-3, 0.0, -1e-7, f64::NAN, f64::INFINITY, 1e-320, 1.005e-3, 9.995e-3]);
+        let v: f64 =
+            self.random.of(&[1e-7, 2.5e-7, 1e-19, 0.5, 3e-3, 0.0, -1e-7, f64::NAN, f64::INFINITY, 1e-320, 1.005e-3, 9.995e-3]);
         v.to_bits()
     }
 
@@ -169,7 +170,9 @@ impl List {
     // Places at, just before and past the end of the file.
     fn offsets(&mut self) {
         for length in [0usize, 5, 8, 28, 64] {
-            for offset in [length.saturating_sub(8), length.saturating_sub(1), length, length + 1, 1 << 32, usize::MAX - 7, usize::MAX] {
+            for offset in
+                [length.saturating_sub(8), length.saturating_sub(1), length, length + 1, 1 << 32, usize::MAX - 7, usize::MAX]
+            {
                 for declared in [0, 7, 8, usize::MAX] {
                     let order = self.order();
                     let file = self.usual().bytes(order);

@@ -15,6 +15,7 @@ pub fn list() -> String {
     readers(&mut random, &mut text);
     sizes(&mut text);
     regions(&mut random, &mut text);
+    empty(&mut text);
     layouts(&mut random, &mut text);
     text
 }
@@ -51,7 +52,14 @@ fn sizes(text: &mut String) {
         let n = 1usize << bits;
         pairs.extend([(n - 1, 1), (n, 1), (1, n + 1)]);
     }
-    pairs.extend([(MAX, 1), (MAX, 2), (1 << 32, 1 << 32), (1 << 32, (1 << 32) - 1), (1 << 31, 1 << 31), (1 << 31, (1 << 31) - 1)]);
+    pairs.extend([
+        (MAX, 1),
+        (MAX, 2),
+        (1 << 32, 1 << 32),
+        (1 << 32, (1 << 32) - 1),
+        (1 << 31, 1 << 31),
+        (1 << 31, (1 << 31) - 1),
+    ]);
     for (x, y) in pairs {
         for (k, &kind) in KINDS.iter().enumerate() {
             let dims = Dims5 { t: 1, c: 1, z: 1, y, x };
@@ -96,6 +104,19 @@ fn regions(random: &mut Random, text: &mut String) {
         };
         let given = [dims.t, dims.c, dims.z, dims.y, dims.x, scene, t, c, z, x, y, w, h].map(|n| n as u64);
         text.push_str(&Line::new('r').all(&given).all(&row).end());
+    }
+}
+
+// m X Y W H, then 0 and 1 where the rectangle is empty, 0 and 0 where it is not
+fn empty(text: &mut String) {
+    for (x, y) in [(0, 0), (0, 1), (1, 0), (MAX, MAX)] {
+        for w in [0, 1, MAX] {
+            for h in [0, 1, MAX] {
+                let is = PixelRect::new(x, y, w, h).is_empty();
+                let given = [x, y, w, h].map(|n| n as u64);
+                text.push_str(&Line::new('m').all(&given).all(&[0, is as u64]).end());
+            }
+        }
     }
 }
 

@@ -4,7 +4,7 @@ use native.Mathlib.Nat.{mul-suc}
 use native.Mathlib.Omega.{arith}
 use mathlib.Core.Bool.{Bool, true, false}
 use mathlib.Core.Option.{none, some}
-use mathlib.Core.Path.{_≡_, refl, sym, ap, _∙_}
+use mathlib.Core.Path.{_≡_, refl, sym}
 use mathlib.Core.List.{List, []}
 use lib.Dec.{leb}
 use lib.ListN.{length}
@@ -15,9 +15,6 @@ use Rattle.lsm_format.specs.Directory.{typeSize, integerSize, valuePlace, eleme
 use Rattle.lsm_format.proofs.Directory.{numbers-past}
 use Rattle.lsm_format.proofs.Numbers.{number-there, part-bytes}
 use Rattle.lsm_directory.specs.Values.{values, arrayAt}
-use Rattle.lsm_directory.specs.Code.{shortOf, shortValue}
-use Rattle.lsm_directory.specs.declared.Short.{Short}
-use Rattle.lsm_directory.specs.declared.Short.the-variants.{Value as ShortValue, TooLarge}
 
 -- numbers that are all in the file are its values
 pub numbers-there : (n size : ℕ) (o : Order) (f : List ℕ) (p : ℕ) → p + size * n ≤ length f → numbers n size o f p ≡ accepted (values n size o f p)
@@ -74,20 +71,3 @@ module _ (o : Order) (f : List ℕ) (type : ℕ) where
   pub array-there : (count p size : ℕ) → count ≤ 100000 → (count ≡ 0 → ⊥) → integerSize type ≡ some size → p + size * count ≤ length f →
       accepted (values count size o f p) ≡ arrayAt o f type count p
   array-there count p size h z i l = rw (← numbers-of count p size h z i) (sym (numbers-there count size o f p l))
-
--- what a value of 16 bits tells
-short-by : (v n : ℕ) (b : Bool) → leb v 65535 ≡ b → shortValue v ≡ some n → (n ≡ v) × (leb v 65535 ≡ true)
-unfolding shortValue
-short-by v n true t e = let e′ : some v ≡ some n = rw t at e in (cc, t)
-short-by v n false t e = let e′ : none ≡ some n = rw t at e in let z : _≡_ {A = ℕ} 0 1 = cc in absurd (omega arith)
-
-pub short-told : {r : Short} (v n : ℕ) → shortOf r ≡ shortValue v → r ≡ ShortValue n → (n ≡ v) × (leb v 65535 ≡ true)
-short-told v n e r = short-by v n (leb v 65535) refl (sym e ∙ ap shortOf r)
-
-large-by : (v : ℕ) (b : Bool) → leb v 65535 ≡ b → shortValue v ≡ none → leb v 65535 ≡ false
-unfolding shortValue
-large-by v true t e = let e′ : some v ≡ none = rw t at e in let z : _≡_ {A = ℕ} 0 1 = cc in absurd (omega arith)
-large-by v false t e = t
-
-pub short-refused : {r : Short} (v : ℕ) → shortOf r ≡ shortValue v → r ≡ TooLarge → leb v 65535 ≡ false
-short-refused v e r = large-by v (leb v 65535) refl (sym e ∙ ap shortOf r)

@@ -1,9 +1,7 @@
 -- What the directory's types mean in the definitions' terms. A strip array is kept by its place, and means the values there.
 use Prim.Native.Nat.{ℕ}
-use mathlib.Core.Bool.{cond}
 use mathlib.Core.Option.{Option, none, some}
 use mathlib.Core.List.{List}
-use lib.Dec.{leb}
 use Rattle.lsm_format.specs.Answer.{Result, accepted, refused}
 use Rattle.lsm_format.specs.Code.{rowOf}
 use Rattle.lsm_format.specs.Numbers.{Order}
@@ -28,8 +26,6 @@ use Rattle.lsm_directory.specs.declared.Field.{Field}
 use Rattle.lsm_directory.specs.declared.Field.the-variants.{NewSubfileType, ImageWidth, ImageLength, BitsPerSample, Compression, SamplesPerPixel, PlanarConfiguration, SampleFormat}
 use Rattle.lsm_directory.specs.declared.Tag.{Tag}
 use Rattle.lsm_directory.specs.declared.Tag.the-variants.{Field as OfField, StripOffsets, StripByteCounts, CzLsmInfo, Other}
-use Rattle.lsm_directory.specs.declared.Short.{Short}
-use Rattle.lsm_directory.specs.declared.Short.the-variants.{Value as ShortValue, TooLarge}
 use Rattle.lsm_directory.specs.declared.Step.{Step}
 use Rattle.lsm_directory.specs.declared.Step.the-variants.{Next, Refused as RefusedStep}
 
@@ -97,11 +93,3 @@ tagMeant StripOffsets = stripOffsets
 tagMeant StripByteCounts = stripByteCounts
 tagMeant CzLsmInfo = czLsmInfo
 tagMeant Other = other
-
--- A value of 16 bits, or none.
-abbrev pub shortOf : Short → Option ℕ
-shortOf (ShortValue n) = some n
-shortOf TooLarge = none
-
-unfoldable pub shortValue : ℕ → Option ℕ
-shortValue v = cond (leb v 65535) (some v) none

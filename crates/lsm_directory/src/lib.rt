@@ -8,14 +8,15 @@ use lsm_bytes::read_u32;
 use lsm_format::error::Refusal;
 use lsm_format::types::Endian;
 ghost use mathlib.Core.Path.{_≡_};
+ghost use mathlib.Core.Bool.{true};
 ghost use mathlib.Core.List.{List};
 ghost use Prim.Native.Nat.{ℕ, _≤_};
 ghost use Rattle.lsm_format.specs.Code.{orderOf};
 ghost use Rattle.lsm_format.specs.Numbers.{Order, numberAt};
-ghost use Rattle.lsm_format.specs.Directory.{typeSize, integerSize, valuePlace, scalar, array, tagOf, isReduced, putField, czLsmInfo, entryBy, entry};
+ghost use Rattle.lsm_format.specs.Directory.{typeSize, integerSize, valuePlace, scalar, array, tagOf, isReduced, isShort, put as putValue, putField, czLsmInfo, entryBy, entry};
 ghost use Rattle.lsm_bytes.specs.Code.{u32Of};
 ghost use Rattle.lsm_directory.specs.Values.{arrayAt};
-ghost use Rattle.lsm_directory.specs.Code.{bytesOf, integerOf, placeOf, scalarOf, arrayOf, tagMeant, fieldMeant, shortOf, shortValue, directoryOf, stepOf};
+ghost use Rattle.lsm_directory.specs.Code.{bytesOf, integerOf, placeOf, scalarOf, arrayOf, tagMeant, fieldMeant, directoryOf, stepOf};
 
 // The bytes of a number.
 pub enum Width {
@@ -263,72 +264,51 @@ fn is_reduced(v: u32) -> bool
     v / 4 % 2 == 1
 }
 
-enum Short {
-    Value(u16),
-    TooLarge,
-}
-
-fn short_value(v: u32) -> Short
-    ensures { λ r. ⌜ shortOf r ≡ shortValue v ⌝ }
+// The scalars that have 16 bits.
+fn is_short_field(t: Field) -> bool
+    ensures { λ r. ⌜ r ≡ isShort (fieldMeant t) ⌝ }
 {
-    if v <= 65_535 {
-        Short::Value(v as u16)
-    } else {
-        Short::TooLarge
+    match t {
+        Field::NewSubfileType => false,
+        Field::ImageWidth => false,
+        Field::ImageLength => false,
+        Field::BitsPerSample => true,
+        Field::Compression => true,
+        Field::SamplesPerPixel => true,
+        Field::PlanarConfiguration => false,
+        Field::SampleFormat => true,
     }
 }
 
 // The directory with a scalar's value.
-fn put_field(t: Field, v: u32, d: Directory) -> Step
-    ensures { λ r. ⌜ ((o : Order) (f : List ℕ) → stepOf o f r ≡ putField (fieldMeant t) v (directoryOf o f d)) ⌝ }
+fn put(t: Field, v: u32, d: Directory) -> Directory
+    requires { ⌜ (isShort (fieldMeant t) ≡ true → v ≤ 65535) ⌝ }
+    ensures { λ r. ⌜ ((o : Order) (f : List ℕ) → directoryOf o f r ≡ putValue (fieldMeant t) v (directoryOf o f d)) ⌝ }
 {
     let mut next = d;
     match t {
-        Field::NewSubfileType => {
-            next.reduced = is_reduced(v);
-            Step::Next(next)
-        }
-        Field::ImageWidth => {
-            next.width = v;
-            Step::Next(next)
-        }
-        Field::ImageLength => {
-            next.height = v;
-            Step::Next(next)
-        }
-        Field::PlanarConfiguration => {
-            next.planar = v == 2;
-            Step::Next(next)
-        }
-        Field::BitsPerSample => match short_value(v) {
-            Short::Value(n) => {
-                next.bits = n;
-                Step::Next(next)
-            }
-            Short::TooLarge => Step::Refused(Refusal::Decode),
-        },
-        Field::Compression => match short_value(v) {
-            Short::Value(n) => {
-                next.compression = n;
-                Step::Next(next)
-            }
-            Short::TooLarge => Step::Refused(Refusal::Decode),
-        },
-        Field::SamplesPerPixel => match short_value(v) {
-            Short::Value(n) => {
-                next.samples = n;
-                Step::Next(next)
-            }
-            Short::TooLarge => Step::Refused(Refusal::Decode),
-        },
-        Field::SampleFormat => match short_value(v) {
-            Short::Value(n) => {
-                next.sample_format = n;
-                Step::Next(next)
-            }
-            Short::TooLarge => Step::Refused(Refusal::Decode),
-        },
+        Field::NewSubfileType => next.reduced = is_reduced(v),
+        Field::ImageWidth => next.width = v,
+        Field::ImageLength => next.height = v,
+        Field::BitsPerSample => next.bits = v as u16,
+        Field::Compression => next.compression = v as u16,
+        Field::SamplesPerPixel => next.samples = v as u16,
+        Field::PlanarConfiguration => next.planar = v == 2,
+        Field::SampleFormat => next.sample_format = v as u16,
     }
+    next
+}
+
+// The directory with a scalar's value, where it has no more bits than the scalar.
+fn put_field(t: Field, v: u32, d: Directory) -> Step
+    ensures { λ r. ⌜ ((o : Order) (f : List ℕ) → stepOf o f r ≡ putField (fieldMeant t) v (directoryOf o f d)) ⌝ }
+{
+    if 65_535 < v {
+        if is_short_field(t) {
+            return Step::Refused(Refusal::Decode);
+        }
+    }
+    Step::Next(put(t, v, d))
 }
 
 // The CZ entry: its values never fit into four bytes, so it holds an offset.

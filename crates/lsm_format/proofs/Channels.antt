@@ -112,32 +112,35 @@ record-inside o f place s n e = inside-by f (place + 4) (i32At o f place) s n e
 -- ---- the record of a channel: none is left to pass; the names end; one more is passed
 
 module _ (o : Order) (f : List ℕ) (place : ℕ) where
+  pub names-end : (channel : ℕ) → nameRecord o f place ≡ none → recordOf o f place (suc channel) ≡ none
+  unfolding recordOf
+  names-end channel e = rw (e, recordOf)
+
+  pub names-go : (channel : ℕ) (r : ℕ × ℕ) → nameRecord o f place ≡ some r → recordOf o f place (suc channel) ≡ recordOf o f (r .0 + r .1) channel
+  unfolding recordOf
+  names-go channel r e = rw (e, recordOf)
+
   pub record-last : (left : ℕ) → left ≤ 0 → nameRecord o f place ≡ recordOf o f place left
   unfolding recordOf
   record-last zero h = refl
   record-last (suc left) h = absurd (omega arith)
 
   pub record-ends : (left : ℕ) → 0 < left → nameRecord o f place ≡ none → none ≡ recordOf o f place left
-  unfolding recordOf
   record-ends zero h e = absurd (omega arith)
-  record-ends (suc left) h e = rw (e, recordOf)
+  record-ends (suc left) h e = sym (names-end left e)
 
   pub record-next : (left s n : ℕ) → 0 < left → nameRecord o f place ≡ some (s, n) → recordOf o f place left ≡ recordOf o f (s + n) (left - 1)
-  unfolding recordOf
   record-next zero s n h e = absurd (omega arith)
-  record-next (suc left) s n h e = let q : suc left - 1 ≡ left = omega arith in rw (q, e, recordOf)
+  record-next (suc left) s n h e = let q : suc left - 1 ≡ left = omega arith in rw q (names-go left (s, n) e)
 
 -- it ends in the file
 channel-by : (r : Option (ℕ × ℕ)) (o : Order) (f : List ℕ) (channel place s n : ℕ) → nameRecord o f place ≡ r →
     ((next : ℕ) → recordOf o f next channel ≡ some (s, n) → s + n ≤ length f) → recordOf o f place (suc channel) ≡ some (s, n) → s + n ≤ length f
-unfolding recordOf
 channel-by none o f channel place s n q next e =
-    let x : recordOf o f place (suc channel) ≡ none = rw (q, recordOf) in
+    let x : recordOf o f place (suc channel) ≡ none = names-end o f place channel q in
     let z : _≡_ {A = ℕ} 0 1 = cc in
     absurd (omega arith)
-channel-by (some r) o f channel place s n q next e =
-    let x : recordOf o f place (suc channel) ≡ recordOf o f (r .0 + r .1) channel = rw (q, recordOf) in
-    next (r .0 + r .1) (sym x ∙ e)
+channel-by (some r) o f channel place s n q next e = next (r .0 + r .1) (sym (names-go o f place channel r q) ∙ e)
 
 pub channel-inside : (o : Order) (f : List ℕ) (channel place s n : ℕ) → recordOf o f place channel ≡ some (s, n) → s + n ≤ length f
 unfolding recordOf

@@ -2,16 +2,17 @@
 use Prim.Native.Nat.{ℕ, zero, suc, _+_, _*_, _≤_, _<_}
 use native.Mathlib.Nat.{mul-suc, mul-zero}
 use native.Mathlib.Omega.{arith}
-use mathlib.Core.Bool.{Bool, true, false, _&&_, cond}
+use mathlib.Core.Bool.{Bool, true, false, not, _&&_, _||_, cond}
+use mathlib.Core.Logic.{_⊎_, inl, inr}
 use mathlib.Core.Option.{none, some}
 use mathlib.Core.Path.{_≡_, refl, sym}
 use mathlib.Core.List.{List, [], _∷_}
 use lib.Dec.{leb, T, leb→le, lit≤}
 use lib.ListN.{length}
 use borrow.Author.Tests.{eq-eqb, ne-eqb, leb-true, leb-false, le-leb, lt-leb, lt-ltb, le-ltb}
-use Rattle.lsm_format.specs.Answer.{Result, accepted, refused, bind, parse, decode}
+use Rattle.lsm_format.specs.Answer.{Result, accepted, refused, bind, need, parse, decode}
 use Rattle.lsm_format.specs.Numbers.{Order, numberAt, u16At, u32At}
-use Rattle.lsm_format.specs.Directory.{among, typeSize, integerSize, valuePlace, scalarPlace, scalar, arrayPlace, numbers, array, Directory, Tag, czLsmInfo, putCz, tagOf, entryBy, entry}
+use Rattle.lsm_format.specs.Directory.{among, typeSize, integerSize, valuePlace, scalarPlace, scalar, arrayPlace, numbers, array, Directory, Field, isShort, put, putField, Tag, czLsmInfo, putCz, tagOf, entryBy, entry}
 use Rattle.lsm_format.proofs.Numbers.{number-past, number-there}
 
 -- ---- types
@@ -203,3 +204,19 @@ module _ (o : Order) (f : List ℕ) (e : ℕ) (d : Directory) where
           entryBy t o f type count (e + 8) d ≡ entry o f e d
       unfolding entry bind
       entry-is count j t k = rw (h, i, j, k)
+
+-- ---- the value of a field
+
+-- a field of 32 bits, or a value of 16, is put into the directory
+pub field-put : (t : Field) (v : ℕ) (d : Directory) → (isShort t ≡ false) ⊎ (v ≤ 65535) → accepted (put t v d) ≡ putField t v d
+unfolding bind
+field-put t v d (inl h) = rw h
+field-put t v d (inr h) = by (isShort t)
+  where
+    by : (b : Bool) → accepted (put t v d) ≡ bind (need decode (not b || leb v 65535)) (λ _. accepted (put t v d))
+    by true = rw (le-leb v 65535 h)
+    by false = refl
+
+pub field-small : (t : Field) (v : ℕ) → (isShort t ≡ false) ⊎ (v ≤ 65535) → isShort t ≡ true → v ≤ 65535
+field-small t v (inl h) e = let z : _≡_ {A = ℕ} 0 1 = cc in absurd (omega arith)
+field-small t v (inr h) e = h

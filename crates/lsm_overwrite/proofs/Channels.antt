@@ -16,7 +16,7 @@ use Rattle.lsm_format.specs.Lent.{filled}
 use Rattle.lsm_format.specs.Utf8.{lossy}
 use Rattle.lsm_format.specs.Channels.{pointers, colorAt, color, recordBy, nameRecord, recordOf, trimmed, nameBy, name, Channel, channelBy, channelIn, textOf, lookup, lookupMemory, colorAtRanges, colorRanges, nameByRanges, recordRanges, nameRanges, channelRanges, channelsRanges}
 use Rattle.lsm_format.proofs.Numbers.{part-past, part-there}
-use Rattle.lsm_format.proofs.Channels.{color-past, channel-inside}
+use Rattle.lsm_format.proofs.Channels.{color-past, names-end, names-go, channel-inside}
 use Rattle.lsm_overwrite.proofs.TwoFiles.{in-file-at, part-law, part-listed, i32-law, i32-listed, bind-law}
 
 -- a colour that is in the file
@@ -34,16 +34,7 @@ by-length f g len start (accepted (pos n)) = rw (len, recordBy)
 by-length f g len start (accepted (negsuc n)) = refl
 by-length f g len start (refused row) = refl
 
--- a step of the records, where they end and where they go on, and what it reads
-ends : (o : Order) (f : List ℕ) (place channel : ℕ) → nameRecord o f place ≡ nothing → recordOf o f place (suc channel) ≡ nothing
-unfolding recordOf
-ends o f place channel e = rw (e, recordOf)
-
-goes : (o : Order) (f : List ℕ) (place channel : ℕ) (r : ℕ × ℕ) → nameRecord o f place ≡ some r →
-    recordOf o f place (suc channel) ≡ recordOf o f (r .0 + r .1) channel
-unfolding recordOf
-goes o f place channel r e = rw (e, recordOf)
-
+-- what is read where the records go on
 goes-ranges : (o : Order) (f : List ℕ) (place channel : ℕ) (r : ℕ × ℕ) → nameRecord o f place ≡ some r →
     recordRanges o f place (suc channel) ≡ both (inFile f place 4) (recordRanges o f (r .0 + r .1) channel)
 unfolding recordRanges
@@ -107,11 +98,11 @@ module _ (f g : List ℕ) (len : length g ≡ length f) where
       (recordOf o g place (suc channel) ≡ recordOf o f place (suc channel)) × Agree f g (nameByRanges (recordOf o f place (suc channel)))
   next-by nothing o channel place e w a next =
       let q : nameRecord o g place ≡ nothing = record-law o place w ∙ e in
-      (ends o g place channel q ∙ sym (ends o f place channel e), rw (ends o f place channel e) tt)
+      (names-end o g place channel q ∙ sym (names-end o f place channel e), rw (names-end o f place channel e) tt)
   next-by (some r) o channel place e w a next =
       let q : nameRecord o g place ≡ some r = record-law o place w ∙ e in
       let n = next (r .0 + r .1) ((rw (goes-ranges o f place channel r e) at a) .1) in
-      (goes o g place channel r q ∙ n .0 ∙ sym (goes o f place channel r e), rw (goes o f place channel r e) (n .1))
+      (names-go o g place channel r q ∙ n .0 ∙ sym (names-go o f place channel r e), rw (names-go o f place channel r e) (n .1))
 
   channel-record : (o : Order) (channel place : ℕ) → Agree f g (recordRanges o f place channel) →
       (recordOf o g place channel ≡ recordOf o f place channel) × Agree f g (nameByRanges (recordOf o f place channel))

@@ -24,8 +24,8 @@ module _ (f g : List ℕ) (len : length g ≡ length f) where
   header-by true t a =
       let on : On f g 0 8 = rw (in-file-at f 0 8 (leb-true _ _ t)) at a in
       bind-law _ (ap (λ (n : ℕ). need parse (leb 8 n)) len) (λ _.
-        bind-law _ (ap₂ {C = Result Order} orderMark (on 0 (omega arith)) (on 1 (omega arith))) (λ o.
-          bind-law _ (number-law f g len 2 o 0 8 2 on (omega arith)) (λ magic. refl)))
+      bind-law _ (ap₂ {C = Result Order} orderMark (on 0 (omega arith)) (on 1 (omega arith))) (λ o.
+      bind-law _ (number-law f g len 2 o 0 8 2 on (omega arith)) (λ magic. refl)))
   header-by false t a =
       let short : length f < 8 = leb-false _ _ t in
       rw (lt-leb 8 (length f) short, lt-leb 8 (length g) (omega arith))
@@ -41,7 +41,7 @@ module _ (f g : List ℕ) (len : length g ≡ length f) where
   chain-law (suc n) true o place w a = refl
   chain-law (suc n) false o place w a =
       over-law f g _ _ (directory-law f g len o place (a .0)) (a .1) (λ d b.
-        over-law f g _ _ refl b (λ v c. chain-law n (eqb (d .1) 0) o (d .1) v c))
+      over-law f g _ _ refl b (λ v c. chain-law n (eqb (d .1) 0) o (d .1) v c))
 
   walk-law : (o : Order) → Agree f g (inFile f 0 8) → Agree f g (walkRanges o f) → walk o g ≡ walk o f
   unfolding walk walkRanges
@@ -62,8 +62,8 @@ module _ (f g : List ℕ) (len : length g ≡ length f) where
   unfolding read openRanges
   read-law a =
       bind-law _ (ap (λ (n : ℕ). need (oversizedAllocation n fileLimit) (leb n fileLimit)) len) (λ _.
-        over-law f g _ _ (tiff-header-law (a .0)) (a .1) (λ o b.
-          over-law f g _ _ (walk-law o (a .0) (b .0)) (b .1) (λ w c. bind-law _ (describe-law o w c) (λ d. refl))))
+      over-law f g _ _ (tiff-header-law (a .0)) (a .1) (λ o b.
+      over-law f g _ _ (walk-law o (a .0) (b .0)) (b .1) (λ w c. bind-law _ (describe-law o w c) (λ d. refl))))
 
   -- opening answers alike, whatever room the table has
   pub open-law : Agree f g (openRanges f) → (room : ℕ) → openFile g room ≡ openFile f room

@@ -15,10 +15,10 @@ ghost use mathlib.Core.Path.{_≡_};
 ghost use mathlib.Core.Bool.{true};
 ghost use Prim.Native.Nat.{_≤_};
 
-// Where the channel block stands, or 0.
+// Where the channel block stands, or 2^32.
 fn place(b: ChannelBlock) -> usize {
     match b {
-        ChannelBlock::Absent => 0,
+        ChannelBlock::Absent => 0x1_0000_0000,
         ChannelBlock::At(at) => at,
     }
 }

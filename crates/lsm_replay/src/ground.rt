@@ -130,6 +130,15 @@ fn region(n: [usize; 20]) -> Answer
     }
 }
 
+fn empty(rect: PixelRect) -> Answer
+    ensures { λ r. ⌜ r .len ≤ 16 ⌝ }
+{
+    if rect.is_empty() {
+        return accepted(1);
+    }
+    accepted(0)
+}
+
 fn scenes(p: usize, m: usize, z: usize) -> Answer
     ensures { λ r. ⌜ r .len ≤ 16 ⌝ }
 {
@@ -172,6 +181,7 @@ fn asked(letter: u8) -> usize
         b'b' => 3,
         b's' => 4,
         b'r' => 13,
+        b'm' => 4,
         b'l' => 3,
         b'e' => 3,
         b'p' => 5,
@@ -187,6 +197,7 @@ fn answer_to(letter: u8, n: [usize; 20], bytes: &[u8]) -> Answer
         b'b' => read(bytes, n[0], n[2], order(n[1])),
         b's' => size(n[0] == 0, n[1], n[2], kind(n[3])),
         b'r' => region(n),
+        b'm' => empty(PixelRect::new(n[0], n[1], n[2], n[3])),
         b'l' => scenes(n[0], n[1], n[2]),
         b'e' => pages(n[0], n[1], n[2]),
         _ => page(n[0], n[1], n[2], n[3], n[4]),

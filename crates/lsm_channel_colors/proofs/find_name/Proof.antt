@@ -62,7 +62,7 @@ returns-4 c =
     let a = r .before .before .before .before in
     let t = a .before .before .before .before in
     let s = t .before .before in
-    named-long _ _ _ _ _ _ (pointed-told _ (s .fits .names) (t .table-of .ensures) (a .before .before .table .given .1)) _ _ _ (word-some _ _ (told-value _ (a .checked-add .ensures) (r .before .before .first .given .1)) .0) (sym (r .find-record .ensures) ∙ ap spanOf (c .before .before .start .given .1)) (c .if1 .taken)
+    named-long _ _ _ _ _ _ (pointed-told _ (s .fits .names) (t .table-of .ensures) (a .before .before .table .given .1)) _ _ _ (word-some _ _ (told-value _ (a .checked-add .ensures) (r .before .before .first .given .1)) .0) (sym (r .find-record .ensures) ∙ ap spanOf (c .before .before .start .given .1)) (omega arith)
 
 returns-5 : tie.Need-returns-5
 returns-5 c =
@@ -70,7 +70,7 @@ returns-5 c =
     let a = r .before .before .before .before in
     let t = a .before .before .before .before in
     let s = t .before .before in
-    named-given _ _ _ _ _ _ (pointed-told _ (s .fits .names) (t .table-of .ensures) (a .before .before .table .given .1)) _ _ _ (word-some _ _ (told-value _ (a .checked-add .ensures) (r .before .before .first .given .1)) .0) (sym (r .find-record .ensures) ∙ ap spanOf (c .before .before .start .given .1)) (c .if1 .left)
+    named-given _ _ _ _ _ _ (pointed-told _ (s .fits .names) (t .table-of .ensures) (a .before .before .table .given .1)) _ _ _ (word-some _ _ (told-value _ (a .checked-add .ensures) (r .before .before .first .given .1)) .0) (sym (r .find-record .ensures) ∙ ap spanOf (c .before .before .start .given .1)) (omega arith)
 
 pub find-name-spec : {M : Type 1} → statement M
 find-name-spec =

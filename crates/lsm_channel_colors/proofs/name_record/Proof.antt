@@ -42,7 +42,7 @@ add-start c =
 sub-rest : tie.Need-sub-rest
 sub-rest c =
     let k = c .before .before .before .before in
-    signed-there _ _ _ _ (read-told (k .before .before .before .read-i32 .ensures) (k .before .n .given .1))
+    omega (arith, signed-there _ _ _ _ (read-told (k .before .before .before .read-i32 .ensures) (k .before .n .given .1)))
 
 returns-3 : tie.Need-returns-3
 returns-3 c =

@@ -1,11 +1,12 @@
 -- `lsm_channel_colors::read_channel` meets its contract. Assumes nothing.
+use native.Mathlib.Omega.{arith}
 use borrow.Author.Needs.{needs}
 use Rattle.lsm_channel_colors.proofs.Looked.{inside-of, looked-outside, looked-nameless, looked-named, looked-short}
 use Rattle.lsm_channel_colors.proofs.read_channel.Statement.{statement}
 use Rattle.lsm_channel_colors.proofs.read_channel.Tie as tie
 
 returns : tie.Need-returns
-returns c = looked-outside _ _ _ _ _ _ (c .if1 .taken)
+returns c = looked-outside _ _ _ _ _ _ (omega arith)
 
 find-channel-requires : tie.Need-find-channel-requires
 find-channel-requires c κs = search needs
@@ -19,7 +20,7 @@ enum-told c = search needs
 returns-2 : tie.Need-returns-2
 returns-2 c =
     let g = c .before .before in
-    looked-nameless _ _ _ _ _ _ (g .before .if1 .left) (g .find-channel .ensures) _ (c .enum-told .given .1)
+    looked-nameless _ _ _ _ _ _ (omega arith) (g .find-channel .ensures) _ (c .enum-told .given .1)
 
 read-name-requires : tie.Need-read-name-requires
 read-name-requires c κs =
@@ -40,7 +41,7 @@ returns-3 c =
     let r = c .before .before .before .before .before in
     let p = r .before .before .before in
     let g = p .before .before in
-    looked-named _ _ _ _ _ _ (g .before .if1 .left) (g .find-channel .ensures) _ _ _ _ (p .place .given .1) _ (r .read-name .ensures) _ (c .before .n .given .1)
+    looked-named _ _ _ _ _ _ (omega arith) (g .find-channel .ensures) _ _ _ _ (p .place .given .1) _ (r .read-name .ensures) _ (c .before .n .given .1)
 
 same-length-2 : tie.Need-same-length-2
 same-length-2 c = search needs
@@ -50,7 +51,7 @@ returns-4 c =
     let r = c .before .before .before .before .before in
     let p = r .before .before .before in
     let g = p .before .before in
-    looked-short _ _ _ _ _ _ (g .before .if1 .left) (g .find-channel .ensures) _ _ _ _ (p .place .given .1) _ (r .read-name .ensures) _ (c .before .r .given .1)
+    looked-short _ _ _ _ _ _ (omega arith) (g .find-channel .ensures) _ _ _ _ (p .place .given .1) _ (r .read-name .ensures) _ (c .before .r .given .1)
 
 pub read-channel-spec : {M : Type 1} → statement M
 read-channel-spec =

@@ -31,7 +31,7 @@ returns : tie.Need-returns Inv-loop μ-loop
 returns c =
     let l = c .before .before .before in
     let a = l .before .args in
-    record { is = trimmed-kept (a .buf .now) (a .start) (l .loop .n) (c .before .before .loop-test .taken) (omega arith) (c .if1 .taken) ∙ l .loop .inv .1; within = l .loop .inv .0 }
+    record { is = trimmed-kept (a .buf .now) (a .start) (l .loop .n) (omega arith) (omega arith) (c .if1 .taken) ∙ l .loop .inv .1; within = l .loop .inv .0 }
 
 loop-less : tie.Need-loop-less Inv-loop μ-loop
 loop-less c = search needs
@@ -40,12 +40,12 @@ loop-again : tie.Need-loop-again Inv-loop μ-loop
 loop-again c =
     let l = c .before .before .before in
     let a = l .before .args in
-    (omega arith, trimmed-zero (a .buf .now) (a .start) (l .loop .n) (c .before .before .loop-test .taken) (omega arith) (c .if1 .left) ∙ l .loop .inv .1)
+    (omega arith, trimmed-zero (a .buf .now) (a .start) (l .loop .n) (omega arith) (omega arith) (c .if1 .left) ∙ l .loop .inv .1)
 
 returns-2 : tie.Need-returns-2 Inv-loop μ-loop
 returns-2 c =
     let l = c .before in
-    record { is = trimmed-none (l .before .args .buf .now) (l .before .args .start) (l .loop .n) (c .loop-test .left) ∙ l .loop .inv .1; within = l .loop .inv .0 }
+    record { is = trimmed-none (l .before .args .buf .now) (l .before .args .start) (l .loop .n) (omega arith) ∙ l .loop .inv .1; within = l .loop .inv .0 }
 
 pub trimmed-length-spec : {M : Type 1} → statement M
 trimmed-length-spec =
