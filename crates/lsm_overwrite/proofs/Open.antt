@@ -1,6 +1,6 @@
 -- Opening's part of demand 3: two files of one length that agree on what opening reads open alike, with the same description, table
 -- and count of directories, or the same refusal. Assumes nothing.
-use Prim.Native.Nat.{ℕ, zero, suc, _≤_, _<_}
+use Prim.Native.Nat.{ℕ, zero, suc, _<_}
 use native.Mathlib.Omega.{arith}
 use mathlib.Core.Bool.{Bool, true, false}
 use mathlib.Core.Option.{Option, none, some}
@@ -12,8 +12,8 @@ use borrow.Author.Tests.{leb-true, leb-false, lt-leb}
 use Rattle.lsm_format.specs.Answer.{Result, bind, need, given, parse, decode, oversizedAllocation}
 use Rattle.lsm_format.specs.Ranges.{inFile, flat, Inside, On, Agree}
 use Rattle.lsm_format.specs.Numbers.{Order}
-use Rattle.lsm_format.specs.CzInfo.{CzInfo, czInfo, czRanges}
-use Rattle.lsm_format.specs.Open.{orderMark, tiffHeader, Walk, start, join, chain, chainRanges, walk, walkRanges, czEntryRanges, describeWalk, fileLimit, Opened, read, openFile, openMemory, tableBy, openRanges}
+use Rattle.lsm_format.specs.CzInfo.{CzInfo, czInfo}
+use Rattle.lsm_format.specs.Open.{orderMark, tiffHeader, Walk, start, chain, chainRanges, walk, walkRanges, czEntryRanges, describeWalk, fileLimit, Opened, read, openFile, openMemory, tableBy, openRanges}
 use Rattle.lsm_overwrite.proofs.TwoFiles.{agree, bind-law, over-law, in-file-at, number-law, number-last}
 use Rattle.lsm_overwrite.proofs.CzInfo.{cz-law}
 use Rattle.lsm_overwrite.proofs.Directory.{directory-law}

@@ -7,7 +7,6 @@ use lsm_format::types::DType;
 use lsm_format::types::Dims5;
 use lsm_format::types::Endian;
 use lsm_positions::LsmLayout;
-ghost use mathlib.Core.Path.{_≡_};
 ghost use Rattle.lsm_channel_colors.specs.Code.{answerOf, Looked};
 ghost use Rattle.lsm_reader.specs.Code.{descriptionOf};
 

@@ -22,11 +22,14 @@ impl Answer {
         }
     }
 
-    // One number more.
+    // One number more; a full answer as it is.
     pub fn with(self, n: usize) -> Answer
-        requires { ⌜ self .len < 16 ⌝ }
-        ensures { λ r. ⌜ r .len ≡ self .len + 1 ⌝ }
+        ensures { λ r. ⌜ r .len ≤ self .len + 1 ⌝ }
+        ensures { λ r. ⌜ (self .len < 16 → r .len ≡ self .len + 1) ⌝ }
     {
+        if 16 <= self.len {
+            return self;
+        }
         let mut numbers = self.numbers;
         let at = self.len;
         numbers[at] = n;
@@ -66,15 +69,25 @@ pub fn refused(r: Refusal) -> Answer
     a
 }
 
-// Whether the line's numbers after the first `from` are those of the answer, no more and no fewer.
+// Whether the line's numbers after the first `from` are those of the answer, no more and no fewer. A count that passes what a
+// line or an answer holds agrees with nothing.
 pub fn agrees(row: Row, from: usize, a: Answer) -> bool
-    requires { ⌜ (row .count ≤ 20) × (from ≤ row .count) × (a .len ≤ 16) ⌝ }
+    ensures { λ r. ⌜ (r ≡ true → (row .count ≤ 20) × (a .len ≤ 16)) ⌝ }
     ensures { λ r. ⌜ (r ≡ true → row .count ≡ from + a .len) ⌝ }
     ensures { λ r. ⌜ (r ≡ true → (k : ℕ) → k < a .len → getD (row .numbers) (from + k) 0 ≡ getD (a .numbers) k 0) ⌝ }
 {
     let said = row.numbers;
     let found = a.numbers;
     let len = a.len;
+    if 20 < row.count {
+        return false;
+    }
+    if row.count < from {
+        return false;
+    }
+    if 16 < len {
+        return false;
+    }
     if row.count - from != len {
         return false;
     }

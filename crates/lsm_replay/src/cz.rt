@@ -13,10 +13,13 @@ use lsm_format::types::ChannelBlock;
 use vector_text::Row;
 ghost use mathlib.Core.Path.{_≡_};
 ghost use mathlib.Core.Bool.{true};
-ghost use Prim.Native.Nat.{_≤_};
+ghost use Prim.Native.Nat.{ℕ, _≤_};
 
 // Where the channel block stands, or 2^32.
-fn place(b: ChannelBlock) -> usize {
+fn place(b: ChannelBlock) -> usize
+    ensures { λ r. ⌜ (b ≡ ChannelBlock.Absent → r ≡ 4294967296) ⌝ }
+    ensures { λ r. ⌜ ((at : ℕ) → b ≡ ChannelBlock.At at → r ≡ at) ⌝ }
+{
     match b {
         ChannelBlock::Absent => 0x1_0000_0000,
         ChannelBlock::At(at) => at,
@@ -57,7 +60,6 @@ fn info(i: CzInfo) -> Answer
 
 // Whether reading the block gives the line's answer.
 pub fn block(row: Row, file: &[u8]) -> bool
-    requires { ⌜ row .count ≤ 20 ⌝ }
     ensures { λ r. ⌜ (r ≡ true → 3 ≤ row .count) ⌝ }
 {
     if row.count < 3 {

@@ -28,13 +28,19 @@ use lsm_positions::PageIndex;
 use vector_text::Row;
 ghost use mathlib.Core.Path.{_≡_};
 ghost use mathlib.Core.Bool.{true};
-ghost use Prim.Native.Nat.{_≤_, _<_};
+ghost use Prim.Native.Nat.{_-_, _≤_, _<_};
+ghost use lib.IntN.{pos, negsuc};
 
-pub fn order(n: usize) -> Endian {
+pub fn order(n: usize) -> Endian
+    ensures { λ r. ⌜ (n ≡ 0 → r ≡ Endian.Little) × (0 < n → r ≡ Endian.Big) ⌝ }
+{
     if n == 0 { Endian::Little } else { Endian::Big }
 }
 
-fn kind(n: usize) -> DType {
+fn kind(n: usize) -> DType
+    ensures { λ r. ⌜ (n ≡ 0 → r ≡ DType.U8) × (n ≡ 1 → r ≡ DType.U16) ⌝ }
+    ensures { λ r. ⌜ (n ≡ 2 → r ≡ DType.I16) × (2 < n → r ≡ DType.F32) ⌝ }
+{
     match n {
         0 => DType::U8,
         1 => DType::U16,
@@ -53,11 +59,16 @@ pub fn bits_of(n: i32) -> usize
     n as usize
 }
 
-fn low(n: usize) -> u32 {
+fn low(n: usize) -> u32
+    ensures { λ r. ⌜ (n < 4294967296 → r ≡ n) ⌝ }
+{
     (n % 0x1_0000_0000) as u32
 }
 
-fn of_bits(bits: u32) -> i32 {
+fn of_bits(bits: u32) -> i32
+    ensures { λ r. ⌜ (bits < 2147483648 → r ≡ pos bits) ⌝ }
+    ensures { λ r. ⌜ (2147483648 ≤ bits → r ≡ negsuc (4294967295 - bits)) ⌝ }
+{
     if bits < 0x8000_0000 {
         bits as i32
     } else {
@@ -206,7 +217,6 @@ fn answer_to(letter: u8, n: [usize; 20], bytes: &[u8]) -> Answer
 
 // Whether the answer is the line's.
 pub fn ground(row: Row, bytes: &[u8]) -> bool
-    requires { ⌜ row .count ≤ 20 ⌝ }
     ensures { λ r. ⌜ (r ≡ true → 3 < row .count) ⌝ }
 {
     let letter = row.kind;

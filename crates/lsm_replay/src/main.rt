@@ -8,6 +8,7 @@ use libc::STDOUT_FILENO;
 use vector_text::Row;
 use vector_text::row_at;
 ghost use mathlib.Core.Path.{_≡_};
+ghost use mathlib.Core.Bool.{true};
 ghost use Prim.Native.Nat.{_+_, _<_, _≤_};
 ghost use lib.ListN.{length};
 
@@ -51,7 +52,7 @@ impl Tally {
 
 // Whether the answer is the line's. A letter that stands for nothing differs.
 fn agrees(row: Row, bytes: &[u8]) -> bool
-    requires { ⌜ row .count ≤ 20 ⌝ }
+    ensures { λ r. ⌜ (r ≡ true → 3 ≤ row .count) ⌝ }
 {
     if row.kind == b'c' {
         return voxels(row);

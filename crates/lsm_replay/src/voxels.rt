@@ -34,7 +34,9 @@ fn wide(b: u8) -> usize
 }
 
 // A figure's letters as the bytes of one number.
-fn letters(f: Figure) -> usize {
+fn letters(f: Figure) -> usize
+    ensures { λ r. ⌜ (f .len ≡ 0 → r ≡ 0) ⌝ }
+{
     let bytes = f.bytes;
     let len = f.len;
     let mut n: usize = 0;
@@ -54,7 +56,6 @@ fn letters(f: Figure) -> usize {
 }
 
 fn step(a: Answer, z: ZStep) -> Answer
-    requires { ⌜ a .len ≤ 14 ⌝ }
     ensures { λ r. ⌜ r .len ≤ a .len + 2 ⌝ }
 {
     match z {
@@ -67,8 +68,7 @@ fn step(a: Answer, z: ZStep) -> Answer
 
 // An answer, and then the calibration.
 pub fn calibrated(a: Answer, c: Calibration) -> Answer
-    requires { ⌜ a .len ≤ 11 ⌝ }
-    ensures { λ r. ⌜ r .len ≤ 16 ⌝ }
+    ensures { λ r. ⌜ r .len ≤ a .len + 5 ⌝ }
 {
     match c {
         Calibration::Uncalibrated => a.with(0),
@@ -76,13 +76,14 @@ pub fn calibrated(a: Answer, c: Calibration) -> Answer
     }
 }
 
-fn pattern(n: usize) -> u64 {
+fn pattern(n: usize) -> u64
+    ensures { λ r. ⌜ r ≡ n ⌝ }
+{
     n as u64
 }
 
 // Whether the calibration is the line's.
 pub fn voxels(row: Row) -> bool
-    requires { ⌜ row .count ≤ 20 ⌝ }
     ensures { λ r. ⌜ (r ≡ true → 3 ≤ row .count) ⌝ }
 {
     if row.count < 3 {

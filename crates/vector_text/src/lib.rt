@@ -2,8 +2,8 @@
 // bytes where the case has any. Two digits are a byte, and `*NNBB` is NN bytes BB.
 ghost use mathlib.Core.Path.{_≡_};
 ghost use mathlib.Core.Bool.{true};
-ghost use Prim.Native.Nat.{_+_, _<_, _≤_};
-ghost use lib.ListN.{length};
+ghost use Prim.Native.Nat.{ℕ, _+_, _<_, _≤_};
+ghost use lib.ListN.{length, getD};
 ghost use Rattle.io.specs.Counts.{Counts};
 
 // The value of a hexadecimal digit; 16 for another byte.
@@ -33,11 +33,18 @@ pub struct Number {
     pub next: usize,
 }
 
-// The number at a place, and where it ends: at the place itself where there is none. A digit that would pass 64 bits ends it.
+// The number at a place, and where it ends: at the place itself where there is none, and at the text's end where the place is
+// past it. A digit that would pass 64 bits ends it.
 pub fn number_at(text: &[u8], from: usize) -> Number
-    requires { ⌜ from ≤ length (now text) ⌝ }
-    ensures { λ r. ⌜ (from ≤ r .next) × (r .next ≤ length (now (text .entry))) ⌝ }
+    ensures { λ r. ⌜ r .next ≤ length (now (text .entry)) ⌝ }
+    ensures { λ r. ⌜ (from ≤ length (now (text .entry)) → from ≤ r .next) ⌝ }
 {
+    if text.len() < from {
+        return Number {
+            value: 0,
+            next: text.len(),
+        };
+    }
     let mut value: usize = 0;
     let mut at = from;
     while at < text.len() {
@@ -120,6 +127,7 @@ fn run_at(text: &[u8], at: usize) -> Run
 // Writes a byte over a part.
 fn fill(bytes: &mut [u8], from: usize, end: usize, b: u8)
     requires { ⌜ end ≤ length (now bytes) ⌝ }
+    ensures { λ _. ⌜ ((k : ℕ) → from ≤ k → k < end → getD (now (bytes .exit)) k 0 ≡ b) ⌝ }
 {
     let mut i = from;
     while i < end {
@@ -133,12 +141,18 @@ pub struct Field {
     pub next: usize,
 }
 
-// Reads bytes from a place on: how many there were, and where they end.
+// Reads bytes from a place on: how many there were, and where they end. None, and the text's end, where the place is past it.
 pub fn bytes_at(text: &[u8], from: usize, bytes: &mut [u8]) -> Field
-    requires { ⌜ from ≤ length (now text) ⌝ }
     ensures { λ r. ⌜ Counts (r .count) (now (bytes .exit)) ⌝ }
-    ensures { λ r. ⌜ (from ≤ r .next) × (r .next ≤ length (now (text .entry))) ⌝ }
+    ensures { λ r. ⌜ r .next ≤ length (now (text .entry)) ⌝ }
+    ensures { λ r. ⌜ (from ≤ length (now (text .entry)) → from ≤ r .next) ⌝ }
 {
+    if text.len() < from {
+        return Field {
+            count: 0,
+            next: text.len(),
+        };
+    }
     let mut at = from;
     let mut n = 0;
     while n < bytes.len() {
@@ -177,12 +191,22 @@ pub struct Row {
     pub next: usize,
 }
 
-// The line at a place, its bytes in lent memory. One that hasn't the form ends the list.
+// The line at a place, its bytes in lent memory. One that hasn't the form ends the list, and so does a place past the end.
 pub fn row_at(text: &[u8], at: usize, bytes: &mut [u8]) -> Row
-    requires { ⌜ at < length (now text) ⌝ }
     ensures { λ r. ⌜ Counts (r .len) (now (bytes .exit)) ⌝ }
-    ensures { λ r. ⌜ (at < r .next) × (r .next ≤ length (now (text .entry))) × (r .count ≤ 20) ⌝ }
+    ensures { λ r. ⌜ (r .next ≤ length (now (text .entry))) × (r .count ≤ 20) ⌝ }
+    ensures { λ r. ⌜ (at < length (now (text .entry)) → at < r .next) ⌝ }
+    ensures { λ r. ⌜ (length (now (text .entry)) ≤ at → r .count ≡ 0) ⌝ }
 {
+    if text.len() <= at {
+        return Row {
+            kind: 0,
+            numbers: [0; 20],
+            count: 0,
+            len: 0,
+            next: text.len(),
+        };
+    }
     let kind = text[at];
     let mut numbers = [0usize; 20];
     let mut count: usize = 0;

@@ -1,6 +1,6 @@
 use Rattle.lsm_format.specs.Directory.{isShort}
 use Rattle.lsm_directory.specs.Code.{fieldMeant}
-use mathlib.Core.Path.{ap, _∙_}
+use mathlib.Core.Path.{ap}
 use native.Mathlib.Omega.{arith}
 use borrow.Author.Needs.{needs}
 use Rattle.lsm_directory.proofs.put.Statement.{statement}

@@ -3,10 +3,9 @@ use Rattle.lsm_format.specs.Directory.{isShort}
 use Rattle.lsm_format.proofs.Directory.{field-put, field-small}
 use mathlib.Core.Bool.{false}
 use Prim.Native.Nat.{_≤_}
-use native.Mathlib.Omega.{arith}
 use mathlib.Core.Path.{_≡_, sym, _∙_}
 use mathlib.Core.Logic.{_⊎_, ⊎-elim, inl, inr}
-use borrow.Author.Tests.{le-leb, lt-leb}
+use borrow.Author.Tests.{lt-leb}
 use Rattle.lsm_format.specs.Answer.{bind}
 use borrow.Author.Needs.{needs}
 use Rattle.lsm_directory.proofs.put_field.Statement.{statement}

@@ -14,6 +14,9 @@ Inv-loop text from bytes₀ at₀ n₀ bytes at n = (n ≤ length bytes) × (len
 abbrev μ-loop : tie.MeasureT-loop
 μ-loop text from bytes₀ at₀ n₀ bytes at n = length bytes - n
 
+returns : tie.Need-returns Inv-loop μ-loop
+returns c = (search needs, (omega arith, λ h. absurd (omega arith)))
+
 loop-holds : tie.Need-loop-holds Inv-loop μ-loop
 loop-holds c = (omega arith, refl, omega arith, omega arith)
 
@@ -23,17 +26,17 @@ run-at-requires c κs = search needs
 same-length : tie.Need-same-length Inv-loop μ-loop
 same-length c = search needs
 
-returns : tie.Need-returns Inv-loop μ-loop
-returns c = (counts _ _ (omega arith), (omega arith, omega arith))
+returns-2 : tie.Need-returns-2 Inv-loop μ-loop
+returns-2 c = (counts _ _ (omega arith), (omega arith, λ h. omega arith))
 
-sub-if2 : tie.Need-sub-if2 Inv-loop μ-loop
-sub-if2 c = search needs
+sub-if3 : tie.Need-sub-if3 Inv-loop μ-loop
+sub-if3 c = search needs
 
 same-length-2 : tie.Need-same-length-2 Inv-loop μ-loop
 same-length-2 c = search needs
 
-returns-2 : tie.Need-returns-2 Inv-loop μ-loop
-returns-2 c = (counts _ _ (omega arith), (omega arith, omega arith))
+returns-3 : tie.Need-returns-3 Inv-loop μ-loop
+returns-3 c = (counts _ _ (omega arith), (omega arith, λ h. omega arith))
 
 add-fill : tie.Need-add-fill Inv-loop μ-loop
 add-fill c = search needs
@@ -53,8 +56,8 @@ loop-again c = search needs
 same-length-3 : tie.Need-same-length-3 Inv-loop μ-loop
 same-length-3 c = search needs
 
-returns-3 : tie.Need-returns-3 Inv-loop μ-loop
-returns-3 c = (counts _ _ (omega arith), (omega arith, omega arith))
+returns-4 : tie.Need-returns-4 Inv-loop μ-loop
+returns-4 c = (counts _ _ (omega arith), (omega arith, λ h. omega arith))
 
 pub bytes-at-spec : {M : Type 1} → statement M
 bytes-at-spec =
@@ -62,17 +65,18 @@ bytes-at-spec =
     (tie.spec
     Inv-loop
     μ-loop
+    returns
     loop-holds
     run-at-requires
     same-length
-    returns
-    sub-if2
-    same-length-2
     returns-2
+    sub-if3
+    same-length-2
+    returns-3
     add-fill
     fill-requires
     add-n
     loop-less
     loop-again
     same-length-3
-    returns-3)
+    returns-4)

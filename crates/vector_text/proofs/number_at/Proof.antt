@@ -1,5 +1,6 @@
 -- `vector_text::number_at` meets its contract. Assumes nothing.
 use Prim.Native.Nat.{_-_, _≤_}
+use native.Mathlib.Omega.{arith}
 use borrow.Author.Needs.{needs}
 use lib.ListN.{length}
 use Rattle.vector_text.proofs.number_at.Statement.{statement}
@@ -11,6 +12,9 @@ Inv-loop text from value₀ at₀ value at = (from ≤ at) × (at ≤ length tex
 abbrev μ-loop : tie.MeasureT-loop
 μ-loop text from value₀ at₀ value at = length text - at
 
+returns : tie.Need-returns Inv-loop μ-loop
+returns c = (omega arith, λ h. absurd (omega arith))
+
 loop-holds : tie.Need-loop-holds Inv-loop μ-loop
 loop-holds c = search needs
 
@@ -20,11 +24,11 @@ shared-slice-read-digit c = search needs
 digit-requires : tie.Need-digit-requires Inv-loop μ-loop
 digit-requires c κs = search needs
 
-returns : tie.Need-returns Inv-loop μ-loop
-returns c = search needs
-
 returns-2 : tie.Need-returns-2 Inv-loop μ-loop
 returns-2 c = search needs
+
+returns-3 : tie.Need-returns-3 Inv-loop μ-loop
+returns-3 c = search needs
 
 mul-value : tie.Need-mul-value Inv-loop μ-loop
 mul-value c = search needs
@@ -44,8 +48,8 @@ loop-less c = search needs
 loop-again : tie.Need-loop-again Inv-loop μ-loop
 loop-again c = search needs
 
-returns-3 : tie.Need-returns-3 Inv-loop μ-loop
-returns-3 c = search needs
+returns-4 : tie.Need-returns-4 Inv-loop μ-loop
+returns-4 c = search needs
 
 pub number-at-spec : {M : Type 1} → statement M
 number-at-spec =
@@ -53,15 +57,16 @@ number-at-spec =
     (tie.spec
     Inv-loop
     μ-loop
+    returns
     loop-holds
     shared-slice-read-digit
     digit-requires
-    returns
     returns-2
+    returns-3
     mul-value
     cast-value
     add-value
     add-at
     loop-less
     loop-again
-    returns-3)
+    returns-4)

@@ -11,13 +11,15 @@ add-bytes-at : tie.Need-add-bytes-at
 add-bytes-at c = search needs
 
 bytes-at-requires : tie.Need-bytes-at-requires
-bytes-at-requires c κs = omega (arith, c .before .before .holds .ensures (c .before .if1 .taken))
+bytes-at-requires c κs = search needs
 
 same-length : tie.Need-same-length
 same-length c = search needs
 
 returns : tie.Need-returns
-returns c = search needs
+returns c =
+    let h = c .before .before .before .before .before .holds .ensures (c .before .before .before .before .if1 .taken) in
+    (search needs, (omega (arith, c .before .before .bytes-at .ensures .1 .1 (omega (arith, h))), omega arith))
 
 returns-2 : tie.Need-returns-2
 returns-2 c = search needs

@@ -14,32 +14,38 @@ Inv-loop from said found len i₀ i = (i ≤ len) × ((k : ℕ) → k < i → ge
 abbrev μ-loop : tie.MeasureT-loop
 μ-loop from said found len i₀ i = len - i
 
-sub-if1 : tie.Need-sub-if1 Inv-loop μ-loop
-sub-if1 c = search needs
-
 returns : tie.Need-returns Inv-loop μ-loop
-returns c = (λ e. let z : _≡_ {A = ℕ} 0 1 = cc in absurd (omega arith), λ e. let z : _≡_ {A = ℕ} 0 1 = cc in absurd (omega arith))
+returns c = (λ e. let z : _≡_ {A = ℕ} 0 1 = cc in absurd (omega arith), (λ e. let z : _≡_ {A = ℕ} 0 1 = cc in absurd (omega arith), λ e. let z : _≡_ {A = ℕ} 0 1 = cc in absurd (omega arith)))
+
+returns-2 : tie.Need-returns-2 Inv-loop μ-loop
+returns-2 c = (λ e. let z : _≡_ {A = ℕ} 0 1 = cc in absurd (omega arith), (λ e. let z : _≡_ {A = ℕ} 0 1 = cc in absurd (omega arith), λ e. let z : _≡_ {A = ℕ} 0 1 = cc in absurd (omega arith)))
+
+returns-3 : tie.Need-returns-3 Inv-loop μ-loop
+returns-3 c = (λ e. let z : _≡_ {A = ℕ} 0 1 = cc in absurd (omega arith), (λ e. let z : _≡_ {A = ℕ} 0 1 = cc in absurd (omega arith), λ e. let z : _≡_ {A = ℕ} 0 1 = cc in absurd (omega arith)))
+
+returns-4 : tie.Need-returns-4 Inv-loop μ-loop
+returns-4 c = (λ e. let z : _≡_ {A = ℕ} 0 1 = cc in absurd (omega arith), (λ e. let z : _≡_ {A = ℕ} 0 1 = cc in absurd (omega arith), λ e. let z : _≡_ {A = ℕ} 0 1 = cc in absurd (omega arith)))
 
 loop-holds : tie.Need-loop-holds Inv-loop μ-loop
 loop-holds c = search needs
 
-add-if2 : tie.Need-add-if2 Inv-loop μ-loop
-add-if2 c = search needs
+add-if5 : tie.Need-add-if5 Inv-loop μ-loop
+add-if5 c = search needs
 
-mul-if2 : tie.Need-mul-if2 Inv-loop μ-loop
-mul-if2 c = search needs
+mul-if5 : tie.Need-mul-if5 Inv-loop μ-loop
+mul-if5 c = search needs
 
-array-read-if2 : tie.Need-array-read-if2 Inv-loop μ-loop
-array-read-if2 c = search needs
+array-read-if5 : tie.Need-array-read-if5 Inv-loop μ-loop
+array-read-if5 c = search needs
 
-mul-if2-2 : tie.Need-mul-if2-2 Inv-loop μ-loop
-mul-if2-2 c = search needs
+mul-if5-2 : tie.Need-mul-if5-2 Inv-loop μ-loop
+mul-if5-2 c = search needs
 
-array-read-if2-2 : tie.Need-array-read-if2-2 Inv-loop μ-loop
-array-read-if2-2 c = search needs
+array-read-if5-2 : tie.Need-array-read-if5-2 Inv-loop μ-loop
+array-read-if5-2 c = search needs
 
-returns-2 : tie.Need-returns-2 Inv-loop μ-loop
-returns-2 c = (λ e. let z : _≡_ {A = ℕ} 0 1 = cc in absurd (omega arith), λ e. let z : _≡_ {A = ℕ} 0 1 = cc in absurd (omega arith))
+returns-5 : tie.Need-returns-5 Inv-loop μ-loop
+returns-5 c = (λ e. let z : _≡_ {A = ℕ} 0 1 = cc in absurd (omega arith), (λ e. let z : _≡_ {A = ℕ} 0 1 = cc in absurd (omega arith), λ e. let z : _≡_ {A = ℕ} 0 1 = cc in absurd (omega arith)))
 
 add-i : tie.Need-add-i Inv-loop μ-loop
 add-i c = search needs
@@ -50,8 +56,8 @@ loop-less c = search needs
 loop-again : tie.Need-loop-again Inv-loop μ-loop
 loop-again c = (search needs, below-more _ _ (c .before .before .loop .inv .1) (omega arith))
 
-returns-3 : tie.Need-returns-3 Inv-loop μ-loop
-returns-3 c = (λ e. omega arith, λ e k h. c .before .loop .inv .1 k (omega arith))
+returns-6 : tie.Need-returns-6 Inv-loop μ-loop
+returns-6 c = (λ e. (omega arith, omega arith), (λ e. omega arith, λ e k h. c .before .loop .inv .1 k (omega arith)))
 
 pub agrees-spec : {M : Type 1} → statement M
 agrees-spec =
@@ -59,16 +65,18 @@ agrees-spec =
     (tie.spec
     Inv-loop
     μ-loop
-    sub-if1
     returns
-    loop-holds
-    add-if2
-    mul-if2
-    array-read-if2
-    mul-if2-2
-    array-read-if2-2
     returns-2
+    returns-3
+    returns-4
+    loop-holds
+    add-if5
+    mul-if5
+    array-read-if5
+    mul-if5-2
+    array-read-if5-2
+    returns-5
     add-i
     loop-less
     loop-again
-    returns-3)
+    returns-6)

@@ -6,7 +6,6 @@ use lib.Signed.{natAbs-le}
 use mir.Syntax.{w32, w64}
 use mir.ValLaws.{toZ-ofZ}
 use Rattle.lsm_replay.proofs.Signed.{raised, below, natural}
-use borrow.Author.Needs.{needs}
 use Rattle.lsm_replay.proofs.ground.bits_of.Statement.{statement}
 use Rattle.lsm_replay.proofs.ground.bits_of.Tie as tie
 

@@ -1,23 +1,25 @@
--- `lsm_replay::voxels::letters` is safe. Assumes nothing.
+-- `lsm_replay::voxels::letters` meets its contract. Assumes nothing.
 use Prim.Native.Nat.{_-_, _≤_}
+use native.Mathlib.Omega.{arith}
+use mathlib.Core.Path.{_≡_, refl}
 use borrow.Author.Needs.{needs}
 use Rattle.lsm_replay.proofs.voxels.letters.Statement.{statement}
 use Rattle.lsm_replay.proofs.voxels.letters.Tie as tie
 
 abbrev Inv-loop : tie.InvT-loop
-Inv-loop bytes len n₀ i₀ n i = i ≤ 8
+Inv-loop bytes len n₀ i₀ n i = (i ≤ 8) × (i ≤ len) × (i ≡ 0 → n ≡ 0)
 
 abbrev μ-loop : tie.MeasureT-loop
 μ-loop bytes len n₀ i₀ n i = 8 - i
 
 loop-holds : tie.Need-loop-holds Inv-loop μ-loop
-loop-holds c = search needs
+loop-holds c = (omega arith, omega arith, λ e. refl)
 
 returns : tie.Need-returns Inv-loop μ-loop
-returns c = search needs
+returns c e = c .before .before .loop .inv .2 (omega arith)
 
 returns-2 : tie.Need-returns-2 Inv-loop μ-loop
-returns-2 c = search needs
+returns-2 c e = refl
 
 mul-n : tie.Need-mul-n Inv-loop μ-loop
 mul-n c = search needs
@@ -38,10 +40,10 @@ loop-less : tie.Need-loop-less Inv-loop μ-loop
 loop-less c = search needs
 
 loop-again : tie.Need-loop-again Inv-loop μ-loop
-loop-again c = search needs
+loop-again c = (omega arith, omega arith, λ e. absurd (omega arith))
 
 returns-3 : tie.Need-returns-3 Inv-loop μ-loop
-returns-3 c = search needs
+returns-3 c e = absurd (omega arith)
 
 pub letters-spec : {M : Type 1} → statement M
 letters-spec =
