@@ -10,6 +10,7 @@ use vector_text::row_at;
 ghost use mathlib.Core.Path.{_≡_};
 ghost use mathlib.Core.Bool.{true};
 ghost use Prim.Native.Nat.{_+_, _<_, _≤_};
+ghost use lib.Dec.{eqb};
 ghost use lib.ListN.{length};
 
 mod answer;
@@ -117,19 +118,30 @@ fn compare(text: &[u8]) -> Tallies
     }
 }
 
-fn report(name: &[u8], t: Tally) {
+// Writes how many of a list differ, and says whether none does.
+fn report(name: &[u8], t: Tally) -> bool
+    ensures { λ r. ⌜ r ≡ eqb (t .differ) 0 ⌝ }
+{
     io::write_all(STDOUT_FILENO, name);
     io::print_decimal(STDOUT_FILENO, t.cases as u64);
     io::write_all(STDOUT_FILENO, b", ");
     io::print_decimal(STDOUT_FILENO, t.differ as u64);
     io::write_all(STDOUT_FILENO, b" differ\n");
+    t.differ == 0
 }
 
 fn main() {
     let mut text = [0u8; 524288];
     let n = io::read_full(STDIN_FILENO, &mut text);
     let t = compare(&text[..n]);
-    report(b"ground ", t.ground);
-    report(b"calibration ", t.voxels);
-    report(b"cz ", t.blocks);
+    let ground = report(b"ground ", t.ground);
+    let voxels = report(b"calibration ", t.voxels);
+    let blocks = report(b"cz ", t.blocks);
+    if ground {
+        if voxels {
+            if blocks {
+                io::write_all(STDOUT_FILENO, b"all agree\n");
+            }
+        }
+    }
 }
