@@ -2,15 +2,19 @@
 use Prim.Native.Nat.{ℕ, zero, suc, _+_}
 use mathlib.Core.List.{List, [], _∷_}
 use lib.Dec.{leb}
-use lib.ListN.{take, drop}
-use Rattle.lsm_format.specs.Answer.{Result, bind, need, decode}
+use Rattle.lsm_format.specs.Answer.{Result, accepted, refused, bind, need, decode}
 use Rattle.lsm_format.specs.Directory.{elementSize, numbers}
-use Rattle.lsm_format.specs.Numbers.{Order, valueOf}
+use Rattle.lsm_format.specs.Numbers.{Order, numberAt}
 
--- So many numbers of so many bytes, one after another from a place on, all of them in the file.
+-- A number that was read; 0 where it is past the end of the file.
+unfoldable pub orNought : Result ℕ → ℕ
+orNought (accepted v) = v
+orNought (refused row) = 0
+
+-- So many numbers of so many bytes, one after another from a place on.
 unfoldable pub values : ℕ → ℕ → Order → List ℕ → ℕ → List ℕ
 values zero size o f p = []
-values (suc n) size o f p = valueOf o (take size (drop p f)) ∷ values n size o f (p + size)
+values (suc n) size o f p = orNought (numberAt size o f p) ∷ values n size o f (p + size)
 
 -- A strip array whose place is known already: the checks that are left of it.
 unfoldable pub arrayAt : Order → List ℕ → ℕ → ℕ → ℕ → Result (List ℕ)

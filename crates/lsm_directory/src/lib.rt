@@ -10,13 +10,14 @@ use lsm_format::types::Endian;
 ghost use mathlib.Core.Path.{_≡_};
 ghost use mathlib.Core.Bool.{true};
 ghost use mathlib.Core.List.{List};
-ghost use Prim.Native.Nat.{ℕ, _≤_};
+ghost use Prim.Native.Nat.{ℕ, _≤_, _<_};
+ghost use lib.ListN.{getD};
 ghost use Rattle.lsm_format.specs.Code.{orderOf};
 ghost use Rattle.lsm_format.specs.Numbers.{Order, numberAt};
 ghost use Rattle.lsm_format.specs.Directory.{typeSize, integerSize, valuePlace, scalar, array, tagOf, isReduced, isShort, put as putValue, putField, czLsmInfo, entryBy, entry};
 ghost use Rattle.lsm_bytes.specs.Code.{u32Of};
 ghost use Rattle.lsm_directory.specs.Values.{arrayAt};
-ghost use Rattle.lsm_directory.specs.Code.{bytesOf, integerOf, placeOf, scalarOf, arrayOf, tagMeant, fieldMeant, directoryOf, stepOf};
+ghost use Rattle.lsm_directory.specs.Code.{bytesOf, valuesOf, integerOf, placeOf, scalarOf, arrayOf, tagMeant, fieldMeant, directoryOf, stepOf};
 
 // The bytes of a number.
 pub enum Width {
@@ -136,7 +137,7 @@ pub enum ArrayAnswer {
 const MAX_STRIP_COUNT: u32 = 100_000;
 
 fn width_bytes(width: Width) -> usize
-    ensures { λ r. ⌜ (r ≡ bytesOf width) × (r ≤ 4) ⌝ }
+    ensures { λ r. ⌜ (r ≡ bytesOf width) × (r ≤ 4) × (0 < r) ⌝ }
 {
     match width {
         Width::One => 1,
@@ -186,6 +187,27 @@ pub fn read_array(buf: &[u8], ty: u16, count: u32, off: usize, e: Endian) -> Arr
     match value_place(buf, size, count, off, e) {
         Place::At(place) => array_at(buf, ty, count, place, e),
         Place::Refused(r) => ArrayAnswer::Refused(r),
+    }
+}
+
+// Value i of a strip array; 0 where there is none.
+pub fn strip_value(buf: &[u8], a: StripArray, i: usize, e: Endian) -> usize
+    ensures { λ r. ⌜ r ≡ getD (valuesOf (orderOf e) (now (buf .entry)) a) i 0 ⌝ }
+{
+    if a.count <= i {
+        return 0;
+    }
+    let width = a.width;
+    let size = width_bytes(width);
+    if buf.len() < a.place {
+        return 0;
+    }
+    if (buf.len() - a.place) / size <= i {
+        return 0;
+    }
+    match read_number(buf, a.place + size * i, width, e) {
+        U32::Value(n) => n as usize,
+        U32::Parse => 0,
     }
 }
 

@@ -2,6 +2,8 @@ pub mod Words
 pub mod Sizes
 pub mod Scenes
 pub mod Numbers
+pub mod Lent
 pub mod CzInfo
 pub mod Channels
 pub mod Directory
+pub mod Open

@@ -1,43 +1,22 @@
--- Laws of lent memory: an answer that has room, and one that has none. Assumes nothing.
+-- Laws of a decoding into lent memory: a text that has room, and one that has none. Assumes nothing.
 use Prim.Native.Nat.{ℕ, _-_, _^_, _≤_, _<_, min}
 use native.Mathlib.Omega.{arith}
 use mathlib.Core.Path.{_≡_, refl, sym, ap, _∙_}
 use mathlib.Core.Bool.{Bool, true, false}
 use mathlib.Core.List.{List, _++_}
-use borrow.Author.Tests.{le-leb, lt-leb, leb-true, leb-false}
+use borrow.Author.Tests.{leb-true, leb-false}
 use lib.Dec.{leb}
 use lib.ListN.{length, take, drop}
 use lib.Seq.{take-at, drop-at}
-use Rattle.lsm_format.specs.Answer.{accepted, refused, bind, tooShort}
-use Rattle.lsm_format.specs.Lent.{lend, filled}
+use Rattle.lsm_format.specs.Answer.{accepted, refused, tooShort}
+use Rattle.lsm_format.specs.Lent.{lend}
+use Rattle.lsm_format.proofs.Lent.{lend-room, lend-short, filled-room, filled-short}
 use Rattle.lsm_format.specs.Utf8.{lossy}
 use Rattle.lsm_format.specs.Code.{rowOf}
 use Rattle.lsm_format.specs.declared.error.Refusal.{Refusal}
 use Rattle.utf8.specs.Code.{decodedOf, Decoding}
 use Rattle.utf8.specs.declared.Decoded.{Decoded}
 use Rattle.utf8.specs.declared.Decoded.the-variants.{Length, Refused}
-
--- the answer has room: its length is accepted
-pub lend-room : (needed room : ℕ) → needed ≤ room → lend needed room ≡ accepted needed
-unfolding lend bind
-lend-room needed room h = rw (le-leb needed room h)
-
--- it has none: the refusal says the length
-pub lend-short : (needed room : ℕ) → room < needed → lend needed room ≡ refused (tooShort (min needed (2 ^ 64 - 1)))
-unfolding lend bind
-lend-short needed room h = rw (lt-leb needed room h)
-
--- the answer has room: it stands at the front, and the rest is as it was
-pub filled-room : (answer lent : List ℕ) → length answer ≤ length lent → filled answer lent ≡ answer ++ drop (length answer) lent
-unfolding filled
-filled-room answer lent h =
-    ap (λ (t : Bool). elim t [ true ↦ answer ++ drop (length answer) lent | false ↦ lent ]) (le-leb (length answer) (length lent) h)
-
--- it has none: all is as it was
-pub filled-short : (answer lent : List ℕ) → length lent < length answer → filled answer lent ≡ lent
-unfolding filled
-filled-short answer lent h =
-    ap (λ (t : Bool). elim t [ true ↦ answer ++ drop (length answer) lent | false ↦ lent ]) (lt-leb (length answer) (length lent) h)
 
 -- ---- a decoding whose length, or 2 ^ 64 - 1 where it is more than that, is n
 

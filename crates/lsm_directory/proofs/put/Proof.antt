@@ -6,90 +6,67 @@ use borrow.Author.Needs.{needs}
 use Rattle.lsm_directory.proofs.put.Statement.{statement}
 use Rattle.lsm_directory.proofs.put.Tie as tie
 use Rattle.lsm_directory.proofs.put.Reads as reads
-use Rattle.lsm_directory.proofs.put.Lts as lts
-use Rattle.lsm_directory.proofs.is_reduced.Reads as is-reduced-reads
 
--- src/lib.rt:290:34
 enum-told : tie.Need-enum-told
 enum-told c = search needs
 
--- src/lib.rt:290:34
 is-reduced-requires : tie.Need-is-reduced-requires
 is-reduced-requires c κs = search needs
 
--- src/lib.rt:291:30
 enum-told-2 : tie.Need-enum-told-2
 enum-told-2 c = search needs
 
--- src/lib.rt:292:31
 enum-told-3 : tie.Need-enum-told-3
 enum-told-3 c = search needs
 
--- src/lib.rt:293:45
 enum-told-4 : tie.Need-enum-told-4
 enum-told-4 c = search needs
 
--- src/lib.rt:293:45
 cast-next : tie.Need-cast-next
 cast-next c = record { fits = omega (arith, c .before .before .pre (ap (λ t. isShort (fieldMeant t)) (c .enum-told4 .given .1))) }
 
--- src/lib.rt:294:50
 enum-told-5 : tie.Need-enum-told-5
 enum-told-5 c = search needs
 
--- src/lib.rt:294:50
 cast-next-2 : tie.Need-cast-next-2
 cast-next-2 c = record { fits = omega (arith, c .before .before .pre (ap (λ t. isShort (fieldMeant t)) (c .enum-told5 .given .1))) }
 
--- src/lib.rt:295:50
 enum-told-6 : tie.Need-enum-told-6
 enum-told-6 c = search needs
 
--- src/lib.rt:295:50
 cast-next-3 : tie.Need-cast-next-3
 cast-next-3 c = record { fits = omega (arith, c .before .before .pre (ap (λ t. isShort (fieldMeant t)) (c .enum-told6 .given .1))) }
 
--- src/lib.rt:296:39
 enum-told-7 : tie.Need-enum-told-7
 enum-told-7 c = search needs
 
--- src/lib.rt:297:53
 enum-told-8 : tie.Need-enum-told-8
 enum-told-8 c = search needs
 
--- src/lib.rt:297:53
 cast-next-4 : tie.Need-cast-next-4
 cast-next-4 c = record { fits = omega (arith, c .before .before .pre (ap (λ t. isShort (fieldMeant t)) (c .enum-told8 .given .1))) }
 
--- src/lib.rt:284:1
 returns : tie.Need-returns
 returns c = λ o f. rw (c .before .enum-told .given .1, c .is-reduced .ensures)
 
--- src/lib.rt:284:1
 returns-2 : tie.Need-returns-2
 returns-2 c = λ o f. rw (c .enum-told2 .given .1)
 
--- src/lib.rt:284:1
 returns-3 : tie.Need-returns-3
 returns-3 c = λ o f. rw (c .enum-told3 .given .1)
 
--- src/lib.rt:284:1
 returns-4 : tie.Need-returns-4
 returns-4 c = λ o f. rw (c .enum-told4 .given .1)
 
--- src/lib.rt:284:1
 returns-5 : tie.Need-returns-5
 returns-5 c = λ o f. rw (c .enum-told5 .given .1)
 
--- src/lib.rt:284:1
 returns-6 : tie.Need-returns-6
 returns-6 c = λ o f. rw (c .enum-told6 .given .1)
 
--- src/lib.rt:284:1
 returns-7 : tie.Need-returns-7
 returns-7 c = λ o f. rw (c .enum-told7 .given .1)
 
--- src/lib.rt:284:1
 returns-8 : tie.Need-returns-8
 returns-8 c = λ o f. rw (c .enum-told8 .given .1)
 

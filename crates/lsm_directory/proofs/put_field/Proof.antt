@@ -11,15 +11,10 @@ use borrow.Author.Needs.{needs}
 use Rattle.lsm_directory.proofs.put_field.Statement.{statement}
 use Rattle.lsm_directory.proofs.put_field.Tie as tie
 use Rattle.lsm_directory.proofs.put_field.Reads as reads
-use Rattle.lsm_directory.proofs.put_field.Lts as lts
-use Rattle.lsm_directory.proofs.is_short_field.Reads as is-short-field-reads
-use Rattle.lsm_directory.proofs.put.Reads as put-reads
 
--- src/lib.rt:307:12
 is-short-field-requires : tie.Need-is-short-field-requires
 is-short-field-requires c κs = search needs
 
--- src/lib.rt:308:13
 returns : tie.Need-returns
 unfolding bind
 returns c = λ o f. rw (sym (c .before .is-short-field .ensures) ∙ c .if2 .taken, lt-leb _ _ (c .before .before .if1 .taken))
@@ -28,11 +23,9 @@ returns c = λ o f. rw (sym (c .before .is-short-field .ensures) ∙ c .if2 .tak
 allowed : (c : tie.Joined1) → (isShort (fieldMeant (c .before .args .t)) ≡ false) ⊎ (c .before .args .v ≤ 65535)
 allowed c = ⊎-elim (λ w. inl (sym (w .1 .ensures) ∙ w .2 .left)) (λ w. inr (w .left)) (c .if1 .came)
 
--- src/lib.rt:311:16
 put-requires : tie.Need-put-requires
 put-requires c κs = field-small (fieldMeant (c .before .args .t)) (c .before .args .v) (allowed c)
 
--- src/lib.rt:303:1
 returns-2 : tie.Need-returns-2
 returns-2 c =
     let a = c .before .before .args in
