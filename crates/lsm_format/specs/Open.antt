@@ -121,18 +121,26 @@ sampleKind format bits =
     (cond (eqb format 2 && eqb bits 16) (accepted i16)
     (cond (eqb format 3 && eqb bits 32) (accepted f32) (refused unsupported))))
 
--- The checks of the walk's first full page against the CZ block, from "XY" to "page count" of "Order of checks".
--- "SamplesPerPixel 0 counts as 1 channel"; Z and T of 0 count as 1.
-unfoldable pub describe : Order → Kind → Directory → ℕ → CzInfo → Result Description
-describe o k p pages i =
+-- The first full page against the CZ block: "XY, channels, T above 1, several interleaved channels, strips per channel".
+-- "SamplesPerPixel 0 counts as 1 channel".
+unfoldable pub agreement : Directory → CzInfo → Result (Unit {0})
+agreement p i =
     bind (need decode (eqb (i .dimX) (p .width) && eqb (i .dimY) (p .height))) (λ _.
     bind (need decode (eqb (i .dimChannels) (max 1 (p .samples)))) (λ _.
     bind (need unsupported (leb (i .dimTime) 1)) (λ _.
     bind (need unsupported (leb (max 1 (p .samples)) 1 || p .planar)) (λ _.
-    bind (need decode (not (eqb (length (p .offsets)) 0) && eqb (length (p .offsets) % max 1 (p .samples)) 0)) (λ _.
+    need decode (not (eqb (length (p .offsets)) 0) && eqb (length (p .offsets) % max 1 (p .samples)) 0)))))
+
+-- "layout, page count". Z of 0 counts as 1.
+unfoldable pub layoutFor : CzInfo → ℕ → Result Layout
+layoutFor i pages =
     bind (layout (i .dimP) (i .dimM) (max 1 (i .dimZ))) (λ l.
-    bind (pagesExpected l) (λ expected.
-    bind (need decode (eqb pages expected)) (λ _.
+    bind (pagesExpected l) (λ expected. bind (need decode (eqb pages expected)) (λ _. accepted l)))
+
+unfoldable pub describe : Order → Kind → Directory → ℕ → CzInfo → Result Description
+describe o k p pages i =
+    bind (agreement p i) (λ _.
+    bind (layoutFor i pages) (λ l.
     accepted (record {
       order = o;
       kind = k;
@@ -141,7 +149,7 @@ describe o k p pages i =
       stripsPerChannel = length (p .offsets) / max 1 (p .samples);
       calibration = i .calibration;
       channelBlock = i .channelColors;
-    })))))))))
+    })))
 
 -- "then pages present, compression 1, sample type, CZ entry present, CZ block, XY, [..]"
 unfoldable pub describeWalk : Order → List ℕ → Walk → Result Description

@@ -1,2 +1,4 @@
 pub mod Walks
 pub mod Turns
+pub mod Words
+pub mod Opens

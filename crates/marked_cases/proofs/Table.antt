@@ -17,7 +17,7 @@ use Rattle.lsm_format.specs.Scenes.{layout, scenes, pagesExpected}
 use Rattle.lsm_format.specs.Lent.{lend}
 use Rattle.lsm_format.specs.CzInfo.{czInfo, header, extents, voxels, channelBlock, shots}
 use Rattle.lsm_format.specs.Directory.{directory, entries, entry, scalar, scalarPlace, array, arrayPlace, numbers, valuePlace, typeSize, integerSize}
-use Rattle.lsm_format.specs.Open.{Opened, openFile, read, tiffHeader, walk, chain, join, describeWalk, describe}
+use Rattle.lsm_format.specs.Open.{Opened, openFile, read, tiffHeader, walk, chain, join, describeWalk, agreement, layoutFor, describe}
 use Rattle.lsm_format.specs.Utf8.{lossy, lossyBy, piece}
 use Rattle.lsm_format.specs.Calibration.{uncalibrated, figure, tensAbove, tensBelow}
 
@@ -132,7 +132,7 @@ opening :
     × (openFile (G-with 66 1) 2 ≡ accepted (G-strip 1))
     -- the strip table's length comes last: 7 with the words needed
     × (openFile G 1 ≡ refused (7 ∷ 2 ∷ []))
-unfolding openFile read tiffHeader walk chain join directory entries entry scalar scalarPlace array arrayPlace numbers valuePlace typeSize integerSize describeWalk describe czInfo header extents voxels channelBlock shots i32At signed32 numberAt partAt layout scenes pagesExpected word lend bind
+unfolding openFile read tiffHeader walk chain join directory entries entry scalar scalarPlace array arrayPlace numbers valuePlace typeSize integerSize describeWalk agreement layoutFor describe czInfo header extents voxels channelBlock shots i32At signed32 numberAt partAt layout scenes pagesExpected word lend bind
 opening = (refl, refl, refl, refl, refl, refl, refl, refl, refl)
 
 -- "plane is 2": the picture has two bytes, and a strip of 3 or 1 is not that

@@ -6,7 +6,6 @@ use borrow.Author.Tests.{eq-eqb, ne-eqb}
 use borrow.Author.Needs.{needs}
 use Rattle.lsm_reader.proofs.walk.admit.Statement.{statement}
 use Rattle.lsm_reader.proofs.walk.admit.Tie as tie
-use Rattle.lsm_reader.proofs.walk.admit.Reads as reads
 
 returns : tie.Need-returns
 unfolding admitted bind

@@ -6,7 +6,6 @@ use Rattle.lsm_reader.specs.Walked.{directoryEnds}
 use borrow.Author.Needs.{needs}
 use Rattle.lsm_reader.proofs.walk.directory_ends.Statement.{statement}
 use Rattle.lsm_reader.proofs.walk.directory_ends.Tie as tie
-use Rattle.lsm_reader.proofs.walk.directory_ends.Reads as reads
 
 read-u16-requires : tie.Need-read-u16-requires
 read-u16-requires c κs = search needs

@@ -10,7 +10,6 @@ use Rattle.lsm_directory.specs.Code.{valuesOf}
 use Rattle.lsm_reader.proofs.Walks.{strip-more, strips-all}
 use Rattle.lsm_reader.proofs.walk.fill_strips.Statement.{statement}
 use Rattle.lsm_reader.proofs.walk.fill_strips.Tie as tie
-use Rattle.lsm_reader.proofs.walk.fill_strips.Reads as reads
 
 abbrev Inv-loop : tie.InvT-loop
 Inv-loop buf offsets counts e out₀ i₀ out i =

@@ -9,7 +9,6 @@ use Rattle.lsm_format.specs.Answer.{bind}
 use borrow.Author.Needs.{needs}
 use Rattle.lsm_reader.proofs.walk.join.Statement.{statement}
 use Rattle.lsm_reader.proofs.walk.join.Tie as tie
-use Rattle.lsm_reader.proofs.walk.join.Reads as reads
 
 first-entry-requires : tie.Need-first-entry-requires
 first-entry-requires c κs = search needs

@@ -6,7 +6,6 @@ use native.Mathlib.Omega.{arith}
 use borrow.Author.Needs.{needs}
 use Rattle.lsm_reader.proofs.walk.lay_page.Statement.{statement}
 use Rattle.lsm_reader.proofs.walk.lay_page.Tie as tie
-use Rattle.lsm_reader.proofs.walk.lay_page.Reads as reads
 
 returns : tie.Need-returns
 returns c = rw (c .if1 .taken) (laid-nothing _ _ (c .before .before .before .pre .0))

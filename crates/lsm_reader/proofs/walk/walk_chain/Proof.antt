@@ -15,7 +15,6 @@ use Rattle.lsm_directory.specs.Code.{directoryOf}
 use Rattle.lsm_reader.specs.Walked.{Going}
 use Rattle.lsm_reader.proofs.walk.walk_chain.Statement.{statement}
 use Rattle.lsm_reader.proofs.walk.walk_chain.Tie as tie
-use Rattle.lsm_reader.proofs.walk.walk_chain.Reads as reads
 
 abbrev Inv-entries : tie.InvT-entries
 Inv-entries buf e table first place w used n next d₀ i₀ d i =
