@@ -13,3 +13,4 @@ pub mod Channels
 pub mod Directory
 pub mod Open
 pub mod Code
+pub mod Printout

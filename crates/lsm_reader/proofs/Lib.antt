@@ -1,4 +1,2 @@
-pub mod Walks
-pub mod Turns
 pub mod Words
 pub mod Opens

@@ -16,11 +16,11 @@ use Rattle.lsm_format.specs.Directory.{Directory, directory}
 use Rattle.lsm_format.specs.Open.{Page, Walk, start, arraysOf, sameGeometry, joinBy, join, chain, walk, stripWords, tableWords}
 use Rattle.lsm_format.proofs.Open.{strip-words-length, table-words-more}
 use Rattle.lsm_directory.proofs.Laws.{values-length}
-use Rattle.lsm_reader.specs.Walked.{firstMeant, walkOf}
+use Rattle.lsm_chain.specs.Walked.{firstMeant, walkOf}
 use Rattle.lsm_reader.specs.Opening.{stripsOf}
-use Rattle.lsm_reader.specs.declared.walk.First.{First}
-use Rattle.lsm_reader.specs.declared.walk.First.the-variants.{Absent, Page as FirstPage}
-use Rattle.lsm_reader.specs.declared.walk.Walk.{Walk as Kept}
+use Rattle.lsm_chain.specs.declared.First.{First}
+use Rattle.lsm_chain.specs.declared.First.the-variants.{Absent, Page as FirstPage}
+use Rattle.lsm_chain.specs.declared.Walk.{Walk as Kept}
 
 -- Whatever is accepted is so.
 Accepting : {A : Type 0} (P : A → Type 0) → Result A → Type 0

@@ -10,8 +10,8 @@ use Rattle.lsm_format.specs.Sizes as Sizes
 use Rattle.lsm_format.specs.Open as Rule
 use Rattle.lsm_format.specs.Open.{openFile, openMemory}
 use Rattle.lsm_reader.specs.Code.{descriptionOf}
-use Rattle.lsm_reader.specs.declared.walk.First.{First}
-use Rattle.lsm_reader.specs.declared.walk.First.the-variants.{Absent, Page}
+use Rattle.lsm_chain.specs.declared.First.{First}
+use Rattle.lsm_chain.specs.declared.First.the-variants.{Absent, Page}
 use Rattle.lsm_reader.specs.declared.open.HeaderAnswer.{HeaderAnswer}
 use Rattle.lsm_reader.specs.declared.open.HeaderAnswer.the-variants.{Order, Refused as RefusedHeader}
 use Rattle.lsm_reader.specs.declared.open.SampleAnswer.{SampleAnswer}

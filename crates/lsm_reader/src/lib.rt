@@ -11,7 +11,6 @@ ghost use Rattle.lsm_channel_colors.specs.Code.{answerOf, Looked};
 ghost use Rattle.lsm_reader.specs.Code.{descriptionOf};
 
 pub mod open;
-pub mod walk;
 
 // What a file says of its pictures, by value: it can be kept, and handed in again with any file.
 pub struct Description {

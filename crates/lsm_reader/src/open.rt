@@ -1,9 +1,9 @@
 // Opening a file: the header, the walk along the directories, the description, and the strip table once every check has passed.
 use crate::Description;
-use crate::walk::First;
-use crate::walk::Walk;
-use crate::walk::WalkAnswer;
-use crate::walk::walk_chain;
+use lsm_chain::First;
+use lsm_chain::Walk;
+use lsm_chain::WalkAnswer;
+use lsm_chain::walk_chain;
 use lsm_bytes::U16;
 use lsm_bytes::read_u16;
 use lsm_cz_info::CzAnswer;
@@ -36,7 +36,7 @@ ghost use Rattle.lsm_format.specs.Open as Open;
 ghost use Rattle.lsm_positions.specs.Code.{answerOf as layoutAnswerOf};
 ghost use Rattle.lsm_cz_info.specs.Code.{infoOf};
 ghost use Rattle.lsm_directory.specs.Code.{directoryOf};
-ghost use Rattle.lsm_reader.specs.Walked.{walkOf};
+ghost use Rattle.lsm_chain.specs.Walked.{walkOf};
 ghost use Rattle.lsm_reader.specs.Opening.{headerOf, sampleOf, describedOf, stripsOf, OpenedAs};
 
 pub enum HeaderAnswer {

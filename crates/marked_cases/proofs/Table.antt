@@ -20,6 +20,8 @@ use Rattle.lsm_format.specs.Directory.{directory, entries, entry, scalar, scala
 use Rattle.lsm_format.specs.Open.{Opened, openFile, read, tiffHeader, walk, chain, join, describeWalk, agreement, layoutFor, describe}
 use Rattle.lsm_format.specs.Utf8.{lossy, lossyBy, piece}
 use Rattle.lsm_format.specs.Calibration.{uncalibrated, figure, tensAbove, tensBelow}
+use Rattle.lsm_format.specs.Channels.{channelIn}
+use Rattle.lsm_format.specs.Printout.{printout, text, acceptedLines, headLines, dimsLine, kindLine, pixelLine, scenesLine, sceneLine, channelsLine, channelLine, noteLines, each, decimal, decimalBy}
 
 -- ---- the figure of a note
 
@@ -152,3 +154,28 @@ G-rectangle = refl
 
 G-rectangle-full : isEmpty (record { x = 1; y = 0; w = 1; h = 1 }) ≡ false
 G-rectangle-full = refl
+
+-- ---- what the lister prints
+
+-- "The program `lsm-list`, G on standard input [..], prints:" nine lines
+printed : printout G ≡
+    -- accepted
+    97 ∷ 99 ∷ 99 ∷ 101 ∷ 112 ∷ 116 ∷ 101 ∷ 100 ∷ 10
+    -- dims 1 1 1 1 2
+    ∷ 100 ∷ 105 ∷ 109 ∷ 115 ∷ 32 ∷ 49 ∷ 32 ∷ 49 ∷ 32 ∷ 49 ∷ 32 ∷ 49 ∷ 32 ∷ 50 ∷ 10
+    -- kind 0
+    ∷ 107 ∷ 105 ∷ 110 ∷ 100 ∷ 32 ∷ 48 ∷ 10
+    -- pixel - - -
+    ∷ 112 ∷ 105 ∷ 120 ∷ 101 ∷ 108 ∷ 32 ∷ 45 ∷ 32 ∷ 45 ∷ 32 ∷ 45 ∷ 10
+    -- scenes 1
+    ∷ 115 ∷ 99 ∷ 101 ∷ 110 ∷ 101 ∷ 115 ∷ 32 ∷ 49 ∷ 10
+    -- image
+    ∷ 105 ∷ 109 ∷ 97 ∷ 103 ∷ 101 ∷ 10
+    -- channels 1
+    ∷ 99 ∷ 104 ∷ 97 ∷ 110 ∷ 110 ∷ 101 ∷ 108 ∷ 115 ∷ 32 ∷ 49 ∷ 10
+    -- - -
+    ∷ 45 ∷ 32 ∷ 45 ∷ 10
+    -- notes 0
+    ∷ 110 ∷ 111 ∷ 116 ∷ 101 ∷ 115 ∷ 32 ∷ 48 ∷ 10 ∷ []
+unfolding printout text acceptedLines headLines dimsLine kindLine pixelLine scenesLine sceneLine channelsLine channelLine noteLines each decimal decimalBy channelIn openFile read tiffHeader walk chain join directory entries entry scalar scalarPlace array arrayPlace numbers valuePlace typeSize integerSize describeWalk describe czInfo header extents voxels channelBlock shots i32At signed32 numberAt partAt layout scenes pagesExpected word lend bind
+printed = refl

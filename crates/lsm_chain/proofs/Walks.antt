@@ -1,0 +1,160 @@
+-- Laws of the walk along the directories. Assumes nothing.
+use Prim.Native.Nat.{ℕ, suc, _+_, _-_, _*_, _≤_, _<_}
+use native.Mathlib.Nat.{add-zero, not-le-of-lt}
+use native.Mathlib.Numerals.{add-one}
+use native.Mathlib.Omega.{arith}
+use mathlib.Core.Bool.{Bool, true, false, cond}
+use mathlib.Core.Path.{_≡_, refl, sym, ap, _∙_}
+use mathlib.Core.List.{List, [], _∷_, _++_, append-nil, append-assoc}
+use lib.Dec.{eqb}
+use lib.ListN.{length, getD, take, drop, set, length-append, length-set, take-append-drop}
+use lib.Seq.{take-all, take-suc, take-suc-set, take-at, drop-at, drop-drop}
+use borrow.Author.Tests.{ne-eqb}
+use borrow.Rule.Slice.PartMut.{putMid, post-is}
+use Rattle.lsm_format.specs.Answer.{Result, accepted, refused, bind, need, parse, decode}
+use Rattle.lsm_format.specs.Numbers.{Order, u16At, u32At}
+use Rattle.lsm_format.specs.Directory.{Directory, plain, entries, directory}
+use Rattle.lsm_format.specs.Open.{Page, Walk, arraysOf, join, chain, stripWords, tableWords}
+use Rattle.lsm_format.proofs.Open.{strip-words-length, strip-offset, strip-count, table-words-more}
+use Rattle.lsm_directory.specs.declared.Directory.{Directory as Kept}
+use Rattle.lsm_directory.specs.declared.StripArray.{StripArray}
+use Rattle.lsm_directory.specs.Code.{valuesOf}
+use Rattle.lsm_directory.proofs.Laws.{values-length}
+use Rattle.lsm_chain.specs.Walked.{directoryEnds, admitted, pagesAfter, directoryWords, Paired, LaidPage, Laid}
+use Rattle.lsm_chain.specs.declared.WalkAnswer.{WalkAnswer}
+use Rattle.lsm_chain.specs.declared.WalkAnswer.the-variants.{Walked, Refused}
+
+-- one page more
+pub one-more : (n : ℕ) (ps : List Page) (p : Page) → n ≡ length ps → n + 1 ≡ length (ps ++ p ∷ [])
+one-more n ps p e = rw length-append (omega arith)
+
+-- ---- a directory's turn
+
+ends-after : {A : Type 0} (n : ℕ) (r : Result ℕ) (rest : ℕ → ℕ → Result A) →
+    bind r (λ next. rest n next) ≡ bind {A = ℕ × ℕ} (bind r (λ next. accepted (n, next))) (λ e. rest (e .0) (e .1))
+unfolding bind
+ends-after n (accepted next) rest = refl
+ends-after n (refused row) rest = refl
+
+ends-first : {A : Type 0} (r : Result ℕ) (u : ℕ → Result ℕ) (rest : ℕ → ℕ → Result A) →
+    bind r (λ n. bind (u n) (λ next. rest n next)) ≡ bind {A = ℕ × ℕ} (bind r (λ n. bind (u n) (λ next. accepted (n, next)))) (λ e. rest (e .0) (e .1))
+unfolding bind
+ends-first (accepted n) u rest = ends-after n (u n) rest
+ends-first (refused row) u rest = refl
+
+-- a directory: its ends first, then its entries
+module _ (o : Order) (f : List ℕ) (place : ℕ) where
+  pub directory-ends : directory o f place ≡ bind (directoryEnds o f place) (λ e.
+      bind (entries (e .0) o f (place + 2) 0 plain) (λ d.
+      bind (need decode (eqb (length (d .offsets)) (length (d .counts)))) (λ _. accepted (d, e .1))))
+  unfolding directory directoryEnds
+  directory-ends = ends-first (u16At o f place) (λ n. u32At o f (place + 2 + 12 * n)) _
+
+  admitted-by : (b : Bool) (w : Walk) (d : Directory) (next : ℕ) (k : ℕ → Walk → Result Walk) →
+      bind {A = Directory × ℕ} (bind (need decode b) (λ _. accepted (d, next))) (λ e. bind (join w (e .0)) (λ v. k (e .1) v))
+      ≡ bind (bind (need decode b) (λ _. join w d)) (λ v. k next v)
+  unfolding bind
+  admitted-by true w d next k = refl
+  admitted-by false w d next k = refl
+
+  module _ (w : Walk) (z : place ≡ 0 → ⊥) (k : ℕ) where
+    pub chain-short : directoryEnds o f place ≡ refused parse → chain (suc k) (eqb place 0) o f place w ≡ refused parse
+    unfolding chain bind
+    chain-short h = rw (ne-eqb place 0 z, directory-ends, h)
+
+    module _ (n next : ℕ) (h : directoryEnds o f place ≡ accepted (n, next)) where
+      pub chain-stop : (row : List ℕ) → entries n o f (place + 2) 0 plain ≡ refused row → chain (suc k) (eqb place 0) o f place w ≡ refused row
+      unfolding chain bind
+      chain-stop row e = rw (ne-eqb place 0 z, directory-ends, h, e)
+
+      pub chain-turn : (d : Directory) → entries n o f (place + 2) 0 plain ≡ accepted d → (r : Result Walk) → admitted w d ≡ r →
+          chain (suc k) (eqb place 0) o f place w ≡ bind r (λ v. chain k (eqb next 0) o f next v)
+      unfolding chain bind admitted
+      chain-turn d e r a =
+          rw (ne-eqb place 0 z, directory-ends, h, e, ← a)
+          (admitted-by (eqb (length (d .offsets)) (length (d .counts))) w d next (λ (place : ℕ) (v : Walk). chain k (eqb place 0) o f place v))
+
+-- ---- the table
+
+pub paired : (d : Kept) (r : WalkAnswer) → d .offsets .count ≡ d .counts .count → Paired d r
+paired d (Walked w) e = e
+paired d (Refused r) e = tt
+
+-- a list filled from the front with another's elements
+take-store : (l m : List ℕ) (i v : ℕ) → i < length m → length l ≡ length m → v ≡ getD m i 0 → take i l ≡ take i m → take (i + 1) (set l i v) ≡ take (i + 1) m
+take-store l m i v h e is q =
+    let u : i < length l = omega arith in
+    rw (add-one, take-suc-set l i v, take-suc m i 0, q, is)
+
+take-full : (l m : List ℕ) (i : ℕ) → length l ≡ length m → length m ≤ i → take i l ≡ take i m → l ≡ m
+take-full l m i e h q = sym (take-all i l (omega arith)) ∙ q ∙ take-all i m h
+
+-- one strip more
+take-strip : (l os cs : List ℕ) (i v c : ℕ) → length os ≡ length cs → length l ≡ 2 * length os → i < length os → v ≡ getD os i 0 → c ≡ getD cs i 0 →
+    take (2 * i) l ≡ take (2 * i) (stripWords os cs) → take (2 * (i + 1)) (set (set l (2 * i) v) (2 * i + 1) c) ≡ take (2 * (i + 1)) (stripWords os cs)
+take-strip l os cs i v c e n h vs cs′ q =
+    let w : length (stripWords os cs) ≡ 2 * length os = strip-words-length os cs e in
+    let s : length (set l (2 * i) v) ≡ length (stripWords os cs) = rw length-set (omega arith) in
+    let t : 2 * (i + 1) ≡ 2 * i + 1 + 1 = omega arith in
+    rw t (take-store (set l (2 * i) v) (stripWords os cs) (2 * i + 1) c (omega arith) s (cs′ ∙ sym (strip-count os cs e i h))
+    (take-store l (stripWords os cs) (2 * i) v (omega arith) (omega arith) (vs ∙ sym (strip-offset os cs e i h)) q))
+
+module _ (o : Order) (f : List ℕ) (offsets counts : StripArray) (e : counts .count ≡ offsets .count) where
+  equal : length (valuesOf o f offsets) ≡ length (valuesOf o f counts)
+  equal = rw (values-length, values-length) (sym e)
+
+  pub words-long : length (stripWords (valuesOf o f offsets) (valuesOf o f counts)) ≡ 2 * offsets .count
+  words-long = rw (strip-words-length (valuesOf o f offsets) (valuesOf o f counts) equal, values-length)
+
+  -- one strip more
+  pub strip-more : (l : List ℕ) (i v c : ℕ) → length l ≡ 2 * offsets .count → i < offsets .count → v ≡ getD (valuesOf o f offsets) i 0 → c ≡ getD (valuesOf o f counts) i 0 →
+      take (2 * i) l ≡ take (2 * i) (stripWords (valuesOf o f offsets) (valuesOf o f counts)) →
+      take (2 * (i + 1)) (set (set l (2 * i) v) (2 * i + 1) c) ≡ take (2 * (i + 1)) (stripWords (valuesOf o f offsets) (valuesOf o f counts))
+  strip-more l i v c n h vs cs q =
+      take-strip l (valuesOf o f offsets) (valuesOf o f counts) i v c equal (rw values-length n) (rw values-length h) vs cs q
+
+  -- all of them
+  pub strips-all : (l : List ℕ) (i : ℕ) → length l ≡ 2 * offsets .count → offsets .count ≤ i →
+      take (2 * i) l ≡ take (2 * i) (stripWords (valuesOf o f offsets) (valuesOf o f counts)) → l ≡ stripWords (valuesOf o f offsets) (valuesOf o f counts)
+  strips-all l i n h q = take-full l (stripWords (valuesOf o f offsets) (valuesOf o f counts)) (2 * i) (n ∙ sym words-long) (rw words-long (omega arith)) q
+
+-- ---- a page laid into the table
+
+module _ (used : ℕ) (t : List ℕ) where
+  pub laid-nothing : used ≤ length t → LaidPage [] used t t used
+  laid-nothing h = record { room = h; laid = λ l. (sym (add-zero used), rw add-zero (sym (take-append-drop used t))) }
+
+  pub laid-short : (words : List ℕ) → used ≤ length t → length t < used + length words → LaidPage words used t t used
+  laid-short words h s = record { room = h; laid = λ l. absurd (not-le-of-lt s l) }
+
+  pub laid-there : (words : List ℕ) (n : ℕ) (ys : List ℕ) → length words ≡ n → used + n ≤ length t → ys ≡ words →
+      LaidPage words used t (putMid used (used + n - used) t ys) (used + n)
+  laid-there words n ys e h is =
+      record { room = h; laid = λ l. (ap (λ (k : ℕ). used + k) (sym e), rw (post-is used (used + n) t (omega arith), is, e)) }
+
+-- a directory more: the table holds its strips as well, where there is room for them all
+words-after : (b : Bool) (ps : List Page) (d : Directory) →
+    tableWords (cond b ps (ps ++ arraysOf d ∷ [])) ≡ tableWords ps ++ cond b [] (stripWords (d .offsets) (d .counts))
+words-after true ps d = sym (append-nil (tableWords ps))
+words-after false ps d = table-words-more ps (arraysOf d)
+
+laid-on : (before words lent table after : List ℕ) (used r : ℕ) → used ≡ length before → table ≡ before ++ drop used lent → r ≡ used + length words →
+    after ≡ take used table ++ (words ++ drop (used + length words) table) → (r ≡ length (before ++ words)) × (after ≡ (before ++ words) ++ drop r lent)
+laid-on before words lent table after used r u t is a =
+    let front : take used table ≡ before = rw t (take-at before (drop used lent) used (sym u)) in
+    let rest : drop used table ≡ drop used lent = rw t (drop-at before (drop used lent) used (sym u)) in
+    (is ∙ rw (length-append, u), a ∙ rw (front, append-assoc, is, ← drop-drop (length words) used table, ← drop-drop (length words) used lent, rest))
+
+pub laid-more : (ps : List Page) (d : Directory) (used r : ℕ) (lent table after : List ℕ) → length after ≡ length table → Laid ps used lent table →
+    LaidPage (directoryWords d) used table after r → Laid (pagesAfter ps d) r lent after
+laid-more ps d used r lent table after s l p =
+    record {
+      long = s ∙ l .long;
+      room = rw s (p .room);
+      laid = rw (words-after (d .reduced) ps d) (λ h.
+          let n : length (tableWords ps) + length (directoryWords d) ≤ length lent = rw (← length-append) h in
+          let q = l .laid (omega arith) in
+          let e : used + length (directoryWords d) ≤ length table = omega (arith, q .0, l .long) in
+          let m = p .laid e in
+          laid-on (tableWords ps) (directoryWords d) lent table after used r (q .0) (q .1) (m .0) (m .1));
+    }

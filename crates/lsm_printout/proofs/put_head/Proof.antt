@@ -1,0 +1,44 @@
+-- `lsm_printout::put_head` meets its contract. Assumes nothing.
+use Rattle.lsm_format.specs.Printout.{acceptedLine, headLines}
+use Rattle.lsm_printout.proofs.Lines.{line, joined}
+use borrow.Author.Needs.{needs}
+use Rattle.lsm_printout.proofs.put_head.Statement.{statement}
+use Rattle.lsm_printout.proofs.put_head.Tie as tie
+
+slice-aggregate-put-bytes : tie.Need-slice-aggregate-put-bytes
+slice-aggregate-put-bytes c = search needs
+
+put-bytes-requires : tie.Need-put-bytes-requires
+put-bytes-requires c κs = search needs
+
+put-dims-requires : tie.Need-put-dims-requires
+put-dims-requires c κs = search needs
+
+put-kind-requires : tie.Need-put-kind-requires
+put-kind-requires c κs = search needs
+
+put-pixel-requires : tie.Need-put-pixel-requires
+put-pixel-requires c κs = search needs
+
+put-scene-count-requires : tie.Need-put-scene-count-requires
+put-scene-count-requires c κs = search needs
+
+same-length : tie.Need-same-length
+same-length c = search needs
+
+returns : tie.Need-returns
+unfolding headLines
+returns c = joined _ _ (joined _ _ (joined _ _ (joined _ _ (line acceptedLine (c .before .before .before .before .before .before .before .before .before .before .before .before .before .before .before .before .before .before .put-bytes .ensures)) (c .before .before .before .before .before .before .before .before .before .before .before .before .before .before .put-dims .ensures)) (c .before .before .before .before .before .before .before .before .before .before .put-kind .ensures)) (c .before .before .before .before .before .before .put-pixel .ensures)) (c .before .before .put-scene-count .ensures)
+
+pub put-head-spec : {M : Type 1} → statement M
+put-head-spec =
+    tie.close
+    (tie.spec
+    slice-aggregate-put-bytes
+    put-bytes-requires
+    put-dims-requires
+    put-kind-requires
+    put-pixel-requires
+    put-scene-count-requires
+    same-length
+    returns)

@@ -1,0 +1,93 @@
+// What is printed of a file.
+use crate::channel::put_channel_count;
+use crate::channel::put_channels;
+use crate::line::put_dims;
+use crate::line::put_kind;
+use crate::line::put_notes;
+use crate::line::put_pixel;
+use crate::line::put_refused;
+use crate::line::put_scene_count;
+use crate::line::put_scenes;
+use crate::put::put_bytes;
+use libc::STDOUT_FILENO;
+use lsm_reader::Description;
+use lsm_reader::open::OpenAnswer;
+use lsm_reader::open::open_file;
+ghost use Rattle.lsm_format.specs.Printout.{text, headLines, acceptedLines, channelsOf, printout};
+ghost use Rattle.lsm_reader.specs.Code.{descriptionOf};
+ghost use Rattle.lsm_reader.specs.Opening.{openedOf};
+ghost use Rattle.lsm_printout.specs.Put.{Put, Listed};
+ghost use Rattle.lsm_printout.specs.Told.{toldLines};
+
+pub mod channel;
+pub mod line;
+pub mod put;
+
+// The longest file that is listed.
+const MOST: usize = 65_536;
+
+// The lines up to the number of scenes.
+fn put_head(out: &mut [u8], at: usize, d: Description) -> usize
+    ensures { λ r. ⌜ Put (text (headLines (descriptionOf d))) at (now (out .entry)) (now (out .exit)) r ⌝ }
+{
+    let dims = d.dims;
+    let kind = d.dtype;
+    let calibration = d.calibration;
+    let layout = d.layout;
+    let first = put_bytes(out, at, b"accepted\n");
+    let second = put_dims(out, first, dims);
+    let third = put_kind(out, second, kind);
+    let fourth = put_pixel(out, third, calibration);
+    put_scene_count(out, fourth, layout.scenes)
+}
+
+// The lines of a file that opens.
+pub fn put_accepted(out: &mut [u8], at: usize, buf: &[u8], d: Description) -> usize
+    ensures { λ r. ⌜ Put (text (acceptedLines (descriptionOf d) (channelsOf (now (buf .entry)) (descriptionOf d)))) at (now (out .entry)) (now (out .exit)) r ⌝ }
+{
+    let dims = d.dims;
+    let calibration = d.calibration;
+    let layout = d.layout;
+    let head = put_head(out, at, d);
+    let scenes = put_scenes(out, head, layout.scenes);
+    let count = put_channel_count(out, scenes, dims.c);
+    let channels = put_channels(out, count, buf, d);
+    put_notes(out, channels, calibration)
+}
+
+// The lines of opening's answer.
+pub fn put_answer(out: &mut [u8], at: usize, buf: &[u8], answer: OpenAnswer) -> usize
+    ensures { λ r. ⌜ Put (text (toldLines (now (buf .entry)) (openedOf answer))) at (now (out .entry)) (now (out .exit)) r ⌝ }
+{
+    match answer {
+        OpenAnswer::Opened(o) => {
+            let d = o.description;
+            put_accepted(out, at, buf, d)
+        }
+        OpenAnswer::Refused(r) => put_refused(out, at, r),
+    }
+}
+
+// Puts a file's printout at the front of `out` and answers its length. Where it has no room, as much of it as fits is put, and the
+// answer is one more than the length of `out`.
+pub fn list(buf: &[u8], out: &mut [u8]) -> usize
+    ensures { λ r. ⌜ Listed (printout (now (buf .entry))) (now (out .entry)) (now (out .exit)) r ⌝ }
+{
+    if MOST < buf.len() {
+        return put_bytes(out, 0, b"too long\n");
+    }
+    let mut table = [0usize; 4096];
+    let answer = open_file(buf, &mut table);
+    put_answer(out, 0, buf, answer)
+}
+
+// Lists a file and writes its printout to standard output; nothing where it has no room.
+pub fn print(buf: &[u8], out: &mut [u8]) -> usize
+    ensures { λ r. ⌜ Listed (printout (now (buf .entry))) (now (out .entry)) (now (out .exit)) r ⌝ }
+{
+    let n = list(buf, out);
+    if n <= out.len() {
+        io::write_all(STDOUT_FILENO, &out[..n]);
+    }
+    n
+}
