@@ -7,3 +7,5 @@ pub mod CzInfo
 pub mod Channels
 pub mod Directory
 pub mod Open
+pub mod Picture
+pub mod Region

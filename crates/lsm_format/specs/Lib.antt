@@ -12,5 +12,6 @@ pub mod CzInfo
 pub mod Channels
 pub mod Directory
 pub mod Open
+pub mod Picture
 pub mod Code
 pub mod Printout

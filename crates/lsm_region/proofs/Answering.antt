@@ -1,0 +1,273 @@
+-- Laws of what is given: what makes a rectangle ready to be copied, and what is left in the sample buffer. Assumes nothing.
+use Prim.Native.Nat.{ℕ, _+_, _-_, _*_, _^_, _<_, _≤_}
+use native.Mathlib.Nat.{add-mul, zero-mul, lt-of-not-le, mul-comm, mul-le-mul, mul-le-mul-right, le-mul-of-pos-right, add-sub-cancel-left, min-eq-left}
+use native.Mathlib.Omega.{arith}
+use mathlib.Core.Path.{_≡_, refl, sym, ap, subst, _∙_}
+use mathlib.Core.Logic.{inl, inr}
+use mathlib.Core.Bool.{Bool, true, false}
+use mathlib.Core.List.{List, [], _++_, reverse}
+use lib.ListN.{length, drop}
+use Rattle.lsm_format.specs.Answer.{Result, accepted, refused, bind, need, decode, tooShort}
+use Rattle.lsm_format.specs.Numbers.{Order, little, big}
+use Rattle.lsm_format.specs.Open.{Description}
+use Rattle.lsm_format.specs.Rectangle.{Rect, rectangle, isEmpty}
+use Rattle.lsm_format.specs.Sizes.{Kind, u8, u16, i16, f32, sampleSize, pictureLimit, pictureBytes, pictureSize}
+use Rattle.lsm_format.specs.Picture.{Samples, stored, inside, span, bytes, picture, each, toLittle, window, channelPicture, samplesIn, rowBytes, into, coordinate, planeStrips, wholePicture, plane, channelStrips, wholeChannel, wholeRows, windowBy, windowStrips, regionBy, regionStrips, filledRegion, region}
+use Rattle.lsm_format.proofs.Lent.{lend-room, lend-short, filled-room, filled-short}
+use Rattle.lsm_format.proofs.Picture.{held, picture-length, window-rows, window-length, window-cong, window-each, PlaneAccepted, plane-accepted, channel-room, bind-then, need-true, size-is, strips-oversized}
+use Rattle.lsm_format.proofs.Region.{size-rows, size-part, whole-bytes, region-plane, channel-even, no-bytes}
+use Rattle.lsm_region.specs.Code.{Pictured}
+use Rattle.lsm_region.specs.Parts.{Ready}
+use Rattle.lsm_region.specs.Cursor.{RowsIn, SampleSize}
+use Rattle.lsm_region.proofs.Filling.{flip-one}
+use Rattle.lsm_region.proofs.Judging.{whole-row}
+
+pub sample-size : (k : Kind) → SampleSize (sampleSize k)
+sample-size u8 = inl refl
+sample-size u16 = inr (inl refl)
+sample-size i16 = inr (inl refl)
+sample-size f32 = inr (inr refl)
+
+-- a rectangle of an accepted picture
+pub ready-plane : {d : Description} {t : List ℕ} {len scene time c z first : ℕ} (r : Rect) → PlaneAccepted d t len scene time c z first → c < d .dims .c
+    → r .x + r .w ≤ d .dims .x → r .y + r .h ≤ d .dims .y → Ready d t len first r
+ready-plane {d} {t} {len} {scene} {time} {c} {z} {first} r p h a b =
+    let x : ℕ = d .dims .x in
+    let y : ℕ = d .dims .y in
+    let s : ℕ = sampleSize (d .kind) in
+    let rows : x * y * s ≡ y * (x * s) = size-rows x y s in
+    record {
+      words = channel-room d (length t) scene time c z first (p .channel) h;
+      across = a;
+      size = omega (arith, size-part (r .w) (r .h) x y (d .kind) (omega arith) (omega arith), p .small);
+      line = λ l. (let o : 1 ≤ y = omega arith in omega (arith, mul-le-mul-right (x * s) o, p .small));
+      held = omega (arith, mul-le-mul-right (x * s) b, p .summed);
+      within = p .within;
+    }
+
+-- ---- copying
+
+-- a rectangle that has samples
+pub record Wide (d : Description) (r : Rect) : Type 0 where
+  pub row : rowBytes d < 2 ^ 64
+  pub start : r .x * sampleSize (d .kind) + r .w * sampleSize (d .kind) ≤ rowBytes d
+  pub part : 0 < r .w * sampleSize (d .kind)
+  pub high : 0 < r .h
+  pub samples : r .h * r .w < 2 ^ 64
+
+positive : (a b : ℕ) → 0 < a * b → (0 < a) × (0 < b)
+positive a b h = (pos-left a b h, pos-left b a (rw (mul-comm b a) h))
+  where
+    pos-left : (a b : ℕ) → 0 < a * b → 0 < a
+    pos-left a b h = lt-of-not-le (λ l. (let z : a ≡ 0 = omega arith in let e : a * b ≡ 0 = ap (λ (k : ℕ). k * b) z ∙ zero-mul b in omega arith))
+
+pub wide : {d : Description} {t : List ℕ} {len first : ℕ} {r : Rect} → Ready d t len first r → 0 < pictureBytes (r .w) (r .h) (d .kind) → Wide d r
+wide {d} {t} {len} {first} {r} y h =
+    let s : ℕ = sampleSize (d .kind) in
+    let p = positive (r .w * r .h) s h in
+    let q = positive (r .w) (r .h) (p .0) in
+    let part : 1 * 1 ≤ r .w * s = mul-le-mul (q .0) (p .1) in
+    record {
+      row = y .line (q .1);
+      start = rw (← add-mul) (mul-le-mul-right s (y .across));
+      part = omega arith;
+      high = q .1;
+      samples = omega (arith, le-mul-of-pos-right (r .w * r .h) (p .1), y .size, mul-comm (r .h) (r .w));
+    }
+
+pub ready-rows : {d : Description} {t : List ℕ} {len first : ℕ} {r : Rect} → Ready d t len first r → Wide d r
+    → RowsIn t len first (first + d .stripsPerChannel) (rowBytes d) (r .y) (r .h) (r .x * sampleSize (d .kind)) (r .w * sampleSize (d .kind))
+ready-rows {d} {t} {len} {first} {r} y w =
+    let q : first + d .stripsPerChannel - first ≡ d .stripsPerChannel = add-sub-cancel-left first (d .stripsPerChannel) in
+    record {
+      words = y .words;
+      among = omega arith;
+      some = w .part;
+      across = w .start;
+      held = rw q (y .held);
+      within = rw q (y .within);
+    }
+
+-- ---- the samples, in either order
+
+one-byte : (o : Order) (sample : List ℕ) → length sample ≡ 1 → sample ≡ toLittle o sample
+one-byte little sample e = refl
+one-byte big sample e = flip-one sample e
+
+module _ (d : Description) (t f : List ℕ) (first : ℕ) (r : Rect) (l : List ℕ)
+    (e : l ≡ span (r .y) (r .h) (λ i. bytes (stored f t first (first + d .stripsPerChannel - first)) (i * rowBytes d + r .x * sampleSize (d .kind)) (r .w * sampleSize (d .kind)))) where
+  gathered : l ≡ window (picture (stored f t first (d .stripsPerChannel)) (d .dims .x) (sampleSize (d .kind))) r
+  gathered =
+      (rw (add-sub-cancel-left first (d .stripsPerChannel)) at e)
+      ∙ sym (window-rows (stored f t first (d .stripsPerChannel)) (d .dims .x) (sampleSize (d .kind)) r)
+
+  pub from-little : d .order ≡ little → l ≡ window (channelPicture d t f first) r
+  unfolding channelPicture each
+  from-little o = rw o gathered
+
+  -- a sample of one byte has no order
+  pub from-one : sampleSize (d .kind) ≡ 1 → l ≡ window (channelPicture d t f first) r
+  unfolding channelPicture each
+  from-one o =
+      gathered
+      ∙ window-cong (picture (stored f t first (d .stripsPerChannel)) (d .dims .x) (sampleSize (d .kind))) _ r
+      (λ i j li ui lj uj. one-byte (d .order) _ (picture-length _ (d .dims .x) (sampleSize (d .kind)) i j ∙ o))
+
+  pub from-big : (out : List ℕ) → d .order ≡ big → out ≡ span 0 (r .h * r .w) (λ q. reverse (bytes (held l) (q * sampleSize (d .kind)) (sampleSize (d .kind))))
+      → out ≡ window (channelPicture d t f first) r
+  unfolding channelPicture
+  from-big out o turned =
+      rw o
+      (turned ∙ ap (λ (k : List ℕ). span 0 (r .h * r .w) (λ q. reverse (bytes (held k) (q * sampleSize (d .kind)) (sampleSize (d .kind))))) gathered
+      ∙ window-each reverse _ (sampleSize (d .kind)) r (λ i j li ui lj uj. picture-length _ (d .dims .x) (sampleSize (d .kind)) i j))
+
+-- ---- the sample buffer
+
+pub pictured-refused : (s : Result Samples) (row lent : List ℕ) → s ≡ refused row → Pictured s lent lent (refused row)
+unfolding into bind
+pictured-refused s row lent e = record { answered = rw e; memory = rw e }
+
+pub pictured-short : (a : Samples) (lent : List ℕ) (size : ℕ) → length (a .bytes) ≡ size → size < 2 ^ 64 → length lent < size
+    → Pictured (accepted a) lent lent (refused (tooShort size))
+unfolding into bind
+pictured-short a lent size e fits h =
+    let u : length lent < length (a .bytes) = omega arith in
+    let m : size ≤ 2 ^ 64 - 1 = omega arith in
+    record {
+      answered = rw (lend-short (length (a .bytes)) (length lent) u, e, min-eq-left m);
+      memory = sym (filled-short (a .bytes) lent u);
+    }
+
+pub pictured-read : (a : Samples) (lent : List ℕ) (size : ℕ) → length (a .bytes) ≡ size → size ≤ length lent
+    → Pictured (accepted a) lent (a .bytes ++ drop size lent) (accepted (a .rows, a .columns, size))
+unfolding into bind
+pictured-read a lent size e h =
+    let u : length (a .bytes) ≤ length lent = omega arith in
+    record {
+      answered = rw (lend-room (length (a .bytes)) (length lent) u, e);
+      memory = rw (← e) (sym (filled-room (a .bytes) lent u));
+    }
+
+samples-length : (d : Description) (t f : List ℕ) (first : ℕ) (r : Rect) → length (samplesIn d t f r first .bytes) ≡ pictureBytes (r .w) (r .h) (d .kind)
+unfolding samplesIn
+samples-length d t f first r =
+    window-length (channelPicture d t f first) (sampleSize (d .kind)) r (channel-even d t f first r) ∙ sym (size-rows (r .w) (r .h) (sampleSize (d .kind)))
+
+-- the samples of a rectangle: no room; room; none
+module _ (d : Description) (t f : List ℕ) (first : ℕ) (r : Rect) (lent : List ℕ) (size : ℕ) (e : size ≡ pictureBytes (r .w) (r .h) (d .kind)) where
+  pub given-short : size < 2 ^ 64 → length lent < size → Pictured (accepted (samplesIn d t f r first)) lent lent (refused (tooShort size))
+  given-short fits h = pictured-short (samplesIn d t f r first) lent size (samples-length d t f first r ∙ sym e) fits h
+
+  pub given-read : (out : List ℕ) → size ≤ length lent → out ≡ window (channelPicture d t f first) r
+      → Pictured (accepted (samplesIn d t f r first)) lent (out ++ drop size lent) (accepted (r .h, r .w, size))
+  unfolding samplesIn
+  given-read out h q = rw q (pictured-read (samplesIn d t f r first) lent size (samples-length d t f first r ∙ sym e) h)
+
+  pub given-none : size ≡ 0 → Pictured (accepted (samplesIn d t f r first)) lent lent (accepted (r .h, r .w, size))
+  unfolding samplesIn
+  given-none z =
+      let n : length (window (channelPicture d t f first) r) ≡ 0 = samples-length d t f first r ∙ sym e ∙ z in
+      let p = given-read [] (omega arith) (sym (no-bytes (window (channelPicture d t f first) r) n)) in
+      subst (λ (k : ℕ). Pictured (accepted (samplesIn d t f r first)) lent (drop k lent) (accepted (r .h, r .w, size))) z p
+
+pub pictured-as : {s s′ : Result Samples} {before after : List ℕ} {answer : Result (ℕ × ℕ × ℕ)} → s ≡ s′
+    → Pictured s′ before after answer → Pictured s before after answer
+pictured-as e p = rw e p
+
+-- ---- plane
+
+module _ (d : Description) (t f : List ℕ) (scene time c z : ℕ) where
+  pub plane-outside : (row : List ℕ) → coordinate d scene time c z ≡ refused row → plane d t f scene time c z ≡ refused row
+  unfolding plane bind
+  plane-outside row e = rw e
+
+  pub plane-unfit : (u : Unit {0}) (row : List ℕ) → coordinate d scene time c z ≡ accepted u → planeStrips d t (length f) scene time c z ≡ refused row
+      → plane d t f scene time c z ≡ refused row
+  unfolding plane bind
+  plane-unfit u row e h = rw (e, h)
+
+  pub plane-fit : (u : Unit {0}) (first : ℕ) → coordinate d scene time c z ≡ accepted u → planeStrips d t (length f) scene time c z ≡ accepted first
+      → plane d t f scene time c z ≡ accepted (samplesIn d t f (wholePicture d) first)
+  unfolding plane bind
+  plane-fit u first e h = rw (e, h)
+
+-- ---- region
+
+-- a rectangle of an oversized picture
+module _ (d : Description) (t : List ℕ) (len scene time c z first : ℕ) (r : Rect) (h : c < d .dims .c) (a : r .x + r .w ≤ d .dims .x) (b : r .y + r .h ≤ d .dims .y) where
+  ready-rows-of : wholeRows d t ≡ true → pictureBytes (r .w) (r .h) (d .kind) ≤ pictureLimit → channelStrips d (length t) scene time c z ≡ accepted first
+      → wholeChannel d t first ≡ true → inside t len first (d .stripsPerChannel) ≡ true → Ready d t len first r
+  ready-rows-of w small e k i = record {
+    words = channel-room d (length t) scene time c z first e h;
+    across = a;
+    size = omega arith;
+    line = λ l. whole-row d t w .1;
+    held = omega (arith, mul-le-mul-right (rowBytes d) b, whole-bytes d t first k);
+    within = i;
+  }
+
+  ready-by : (row : List ℕ) → pictureSize (d .dims .x) (d .dims .y) (d .kind) ≡ refused row → wholeRows d t ≡ true → pictureBytes (r .w) (r .h) (d .kind) ≤ pictureLimit
+      → (p : ℕ) → channelStrips d (length t) scene time c z ≡ accepted p → (k : Bool) → wholeChannel d t p ≡ k → windowBy k d t len scene time c z p ≡ accepted first
+      → Ready d t len first r
+  ready-by row o w small p e true k m =
+      bind-then (need decode (inside t len p (d .stripsPerChannel))) _ first m
+      (λ u e₁ e₂.
+      let q : p ≡ first = cc in
+      ready-rows-of w small (rw q at e) (rw q at k) (rw q at (need-true _ (inside t len p (d .stripsPerChannel)) u e₁)))
+  ready-by row o w small p e false k m =
+      let f : refused row ≡ planeStrips d t len scene time c z = strips-oversized d t len scene time c z row o in
+      let z : _≡_ {A = ℕ} 0 1 = cc in
+      absurd (omega arith)
+
+  ready-window : (row : List ℕ) → pictureSize (d .dims .x) (d .dims .y) (d .kind) ≡ refused row → (k : Bool) → wholeRows d t ≡ k
+      → regionBy k d t len scene time c z r ≡ accepted first → Ready d t len first r
+  unfolding windowStrips
+  ready-window row o true w m =
+      bind-then (pictureSize (r .w) (r .h) (d .kind)) _ first m
+      (λ n e₁ e₂.
+      bind-then (channelStrips d (length t) scene time c z) _ first e₂
+      (λ p e₃ e₄.
+      let s = size-is (r .w) (r .h) (d .kind) n e₁ in
+      ready-by row o w (rw (sym (s .0)) (s .1)) p e₃ (wholeChannel d t p) refl e₄))
+  ready-window row o false w m =
+      let f : refused row ≡ planeStrips d t len scene time c z = strips-oversized d t len scene time c z row o in
+      let z : _≡_ {A = ℕ} 0 1 = cc in
+      absurd (omega arith)
+
+  ready-size : (s : Result ℕ) → pictureSize (d .dims .x) (d .dims .y) (d .kind) ≡ s → regionStrips d t len scene time c z r ≡ accepted first → Ready d t len first r
+  unfolding regionStrips
+  ready-size (accepted n) e m =
+      ready-plane r (plane-accepted d t len scene time c z first (sym (region-plane d t len scene time c z r n e (omega arith) (omega arith)) ∙ m)) h a b
+  ready-size (refused row) e m = ready-window row e (wholeRows d t) refl m
+
+  -- what region's checks accept can be copied
+  pub ready-region : regionStrips d t len scene time c z r ≡ accepted first → Ready d t len first r
+  ready-region m = ready-size (pictureSize (d .dims .x) (d .dims .y) (d .kind)) refl m
+
+module _ (d : Description) (t f : List ℕ) (scene time c z : ℕ) (r : Rect) where
+  pub filled-empty : (lent : List ℕ) → isEmpty r ≡ true → Pictured (filledRegion (isEmpty r) d t f scene time c z r) lent lent (accepted (r .h, r .w, 0))
+  filled-empty lent e = rw e (pictured-read (record { rows = r .h; columns = r .w; bytes = [] }) lent 0 refl (omega arith))
+
+  pub filled-unfit : (row : List ℕ) → isEmpty r ≡ false → regionStrips d t (length f) scene time c z r ≡ refused row
+      → filledRegion (isEmpty r) d t f scene time c z r ≡ refused row
+  unfolding bind
+  filled-unfit row e h = rw e (rw h)
+
+  pub filled-fit : (first : ℕ) → isEmpty r ≡ false → regionStrips d t (length f) scene time c z r ≡ accepted first
+      → filledRegion (isEmpty r) d t f scene time c z r ≡ accepted (samplesIn d t f r first)
+  unfolding bind
+  filled-fit first e h = rw e (rw h)
+
+  pub region-outside : (row : List ℕ) → coordinate d scene time c z ≡ refused row → region d t f scene time c z r ≡ refused row
+  unfolding region bind
+  region-outside row e = rw e
+
+  pub region-off : (u : Unit {0}) (row : List ℕ) → coordinate d scene time c z ≡ accepted u → rectangle (d .dims) r ≡ refused row
+      → region d t f scene time c z r ≡ refused row
+  unfolding region bind
+  region-off u row e h = rw (e, h)
+
+  pub region-within : (u v : Unit {0}) → coordinate d scene time c z ≡ accepted u → rectangle (d .dims) r ≡ accepted v
+      → region d t f scene time c z r ≡ filledRegion (isEmpty r) d t f scene time c z r
+  unfolding region bind
+  region-within u v e h = rw (e, h)

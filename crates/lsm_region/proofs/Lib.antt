@@ -1,0 +1,4 @@
+pub mod Judging
+pub mod Filling
+pub mod Walking
+pub mod Answering

@@ -1,0 +1,152 @@
+// Pictures and rectangles of them, read from the strips of a file.
+mod checks;
+mod copier;
+mod pages;
+mod strips;
+
+use crate::checks::checked_place;
+use crate::checks::plane_strips;
+use crate::checks::region_strips;
+use crate::copier::fill;
+use crate::pages::First;
+use lsm_format::error::Check;
+use lsm_format::error::Refusal;
+use lsm_format::types::PixelRect;
+use lsm_format::types::checked_rectangle;
+use lsm_reader::Description;
+ghost use mathlib.Core.Path.{_≡_};
+ghost use lib.ListN.{length};
+ghost use Rattle.lsm_format.specs.Answer.{accepted};
+ghost use Rattle.lsm_format.specs.Code.{rectOf};
+ghost use Rattle.lsm_format.specs.Picture as Rule;
+ghost use Rattle.lsm_format.specs.Rectangle.{isEmpty, rectangle};
+ghost use Prim.Native.Nat.{_<_};
+ghost use Rattle.lsm_reader.specs.Code.{descriptionOf};
+ghost use Rattle.lsm_region.specs.Code.{answerOf, Pictured};
+ghost use Rattle.lsm_region.specs.Parts.{Ready};
+
+// The rows and columns of what was read, and how many bytes were written.
+pub struct Picture {
+    pub height: usize,
+    pub width: usize,
+    pub bytes: usize,
+}
+
+pub enum PictureAnswer {
+    Read(Picture),
+    Refused(Refusal),
+}
+
+// The last check, and the samples. Nothing is written before it.
+fn deliver(
+    buf: &[u8],
+    d: Description,
+    table: &[usize],
+    first: usize,
+    rect: PixelRect,
+    out: &mut [u8],
+) -> PictureAnswer
+    requires { ⌜ Ready (descriptionOf d) (now table) (length (now buf)) first (rectOf rect) ⌝ }
+    ensures { λ r. ⌜ Pictured (accepted (Rule.samplesIn (descriptionOf d) (now (table .entry)) (now (buf .entry)) (rectOf rect) first)) (now (out .entry)) (now (out .exit)) (answerOf r) ⌝ }
+{
+    let dtype = d.dtype;
+    let size = rect.w * rect.h * dtype.size_bytes();
+    let picture = Picture {
+        height: rect.h,
+        width: rect.w,
+        bytes: size,
+    };
+    if out.len() < size {
+        return PictureAnswer::Refused(Refusal::TooShort { needed: size });
+    }
+    if size == 0 {
+        return PictureAnswer::Read(picture);
+    }
+    fill(buf, table, d, first, rect, &mut out[..size]);
+    PictureAnswer::Read(picture)
+}
+
+// A whole picture. Its samples are written to `out`, little-endian, row by row.
+pub fn plane(
+    buf: &[u8],
+    d: Description,
+    table: &[usize],
+    scene: usize,
+    t: usize,
+    c: usize,
+    z: usize,
+    out: &mut [u8],
+) -> PictureAnswer
+    ensures { λ r. ⌜ Pictured (Rule.plane (descriptionOf d) (now (table .entry)) (now (buf .entry)) scene t c z) (now (out .entry)) (now (out .exit)) (answerOf r) ⌝ }
+{
+    let dims = d.dims;
+    match checked_place(d, scene, t, c, z) {
+        Check::Accepted => match plane_strips(d, table, buf.len(), scene, t, c, z) {
+            First::At(first) => {
+                let whole = PixelRect {
+                    x: 0,
+                    y: 0,
+                    w: dims.x,
+                    h: dims.y,
+                };
+                deliver(buf, d, table, first, whole, out)
+            }
+            First::Refused(strips) => PictureAnswer::Refused(strips),
+        },
+        Check::Refused(place) => PictureAnswer::Refused(place),
+    }
+}
+
+// A rectangle that lies in the picture. An empty one asks nothing of the strips.
+fn part_of(
+    buf: &[u8],
+    d: Description,
+    table: &[usize],
+    scene: usize,
+    t: usize,
+    c: usize,
+    z: usize,
+    rect: PixelRect,
+    out: &mut [u8],
+) -> PictureAnswer
+    requires { ⌜ c < descriptionOf d .dims .c ⌝ }
+    requires { ⌜ rectangle (descriptionOf d .dims) (rectOf rect) ≡ accepted tt ⌝ }
+    ensures { λ r. ⌜ Pictured (Rule.filledRegion (isEmpty (rectOf rect)) (descriptionOf d) (now (table .entry)) (now (buf .entry)) scene t c z (rectOf rect)) (now (out .entry)) (now (out .exit)) (answerOf r) ⌝ }
+{
+    if rect.is_empty() {
+        return PictureAnswer::Read(Picture {
+            height: rect.h,
+            width: rect.w,
+            bytes: 0,
+        });
+    }
+    match region_strips(d, table, buf.len(), scene, t, c, z, rect) {
+        First::At(first) => deliver(buf, d, table, first, rect, out),
+        First::Refused(r) => PictureAnswer::Refused(r),
+    }
+}
+
+// A rectangle of a picture, which may be one that is too large to be read whole. Its samples are written to `out`, little-endian, row
+// by row.
+pub fn region(
+    buf: &[u8],
+    d: Description,
+    table: &[usize],
+    scene: usize,
+    t: usize,
+    c: usize,
+    z: usize,
+    rect: PixelRect,
+    out: &mut [u8],
+) -> PictureAnswer
+    ensures { λ r. ⌜ Pictured (Rule.region (descriptionOf d) (now (table .entry)) (now (buf .entry)) scene t c z (rectOf rect)) (now (out .entry)) (now (out .exit)) (answerOf r) ⌝ }
+{
+    let dims = d.dims;
+    match checked_place(d, scene, t, c, z) {
+        Check::Accepted => match checked_rectangle(dims, rect) {
+            Check::Accepted => part_of(buf, d, table, scene, t, c, z, rect, out),
+            Check::Refused(outside) => PictureAnswer::Refused(outside),
+        },
+        Check::Refused(coordinate) => PictureAnswer::Refused(coordinate),
+    }
+}
