@@ -9,3 +9,6 @@ pub mod Directory
 pub mod Open
 pub mod Picture
 pub mod Region
+pub mod Accepting
+pub mod Pages
+pub mod Opened

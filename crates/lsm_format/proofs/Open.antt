@@ -48,7 +48,7 @@ unequal h = omega arith
 nothing-less : {i : ℕ} → i < 0 → ⊥
 nothing-less h = omega arith
 
-double : (i : ℕ) → 2 * suc i ≡ suc (suc (2 * i))
+pub double : (i : ℕ) → 2 * suc i ≡ suc (suc (2 * i))
 double i = omega arith
 
 -- two words for each strip

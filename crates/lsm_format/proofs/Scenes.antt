@@ -1,13 +1,13 @@
 -- Laws of scenes and pages, a case each. Assumes nothing.
 use Prim.Native.Nat.{ℕ, _+_, _*_, _≤_, _<_, max}
 use native.Mathlib.Omega.{arith}
-use mathlib.Core.Bool.{true, false}
-use mathlib.Core.Path.{_≡_, refl, sym}
+use mathlib.Core.Bool.{Bool, true, false}
+use mathlib.Core.Path.{_≡_, refl, sym, _∙_}
 use mathlib.Core.Option.{none, some}
 use lib.IntN.{ℤ, pos, negsuc, natAbs}
 use lib.Signed.{ltZ, nonNeg}
-use lib.Dec.{T}
-use borrow.Author.Tests.{lt-ltb, le-ltb, ltb-true}
+use lib.Dec.{T, ltb}
+use borrow.Author.Tests.{lt-ltb, le-ltb, ltb-true, ltb-false}
 use Rattle.lsm_format.specs.Answer.{accepted, refused, bind, decode}
 use Rattle.lsm_format.specs.Words.{word}
 use Rattle.lsm_format.specs.Scenes.{Layout, count, scenes, layout, pageOf}
@@ -52,3 +52,17 @@ module _ (l : Layout) (scene z : ℕ) where
 
   pub page-at : scene < l .scenes → (first : ℕ) → word (scene * l .depth) ≡ some first → word (first + z) ≡ pageOf l scene z
   page-at h first e = rw (page-inside h, word-some _ _ e .0)
+
+  -- a page that there is
+  page-by : (b : Bool) (page : ℕ) → ltb scene (l .scenes) ≡ b → pageOf l scene z ≡ some page →
+      (scene < l .scenes) × (page ≡ scene * l .depth + z)
+  page-by true page t e =
+      let h : scene < l .scenes = ltb-true _ _ t in
+      (h, word-some _ _ (sym (page-inside h) ∙ e) .0)
+  page-by false page t e =
+      let n : none ≡ pageOf l scene z = page-outside (ltb-false _ _ t) in
+      let z : _≡_ {A = ℕ} 0 1 = cc in
+      absurd (omega arith)
+
+  pub page-some : (page : ℕ) → pageOf l scene z ≡ some page → (scene < l .scenes) × (page ≡ scene * l .depth + z)
+  page-some page e = page-by (ltb scene (l .scenes)) page refl e

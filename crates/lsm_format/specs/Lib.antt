@@ -13,5 +13,6 @@ pub mod Channels
 pub mod Directory
 pub mod Open
 pub mod Picture
+pub mod Listed
 pub mod Code
 pub mod Printout

@@ -1,4 +1,4 @@
--- Two files of one length that agree on the bytes that a channel lookup reads: the lookup answers the same. Assumes nothing.
+-- Two files of one length that agree on the bytes that channel lookups read: each lookup answers the same. Assumes nothing.
 use Prim.Native.Nat.{ℕ, zero, suc, _+_, _*_, _≤_, _<_}
 use native.Mathlib.Omega.{arith}
 use mathlib.Core.Bool.{Bool, true, false}
@@ -9,15 +9,16 @@ use lib.Dec.{leb, ltb}
 use lib.IntN.{ℤ, pos, negsuc}
 use lib.ListN.{length, take, drop}
 use borrow.Author.Tests.{le-leb, leb-true, leb-false, ltb-true, ltb-false}
-use Rattle.lsm_format.specs.Answer.{Result, accepted, refused, bind}
+use Rattle.lsm_format.specs.Answer.{Result, accepted, refused, bind, outOfRange}
 use Rattle.lsm_format.specs.Ranges.{at, both, over, inFile, On, Agree}
 use Rattle.lsm_format.specs.Numbers.{Order, partAt, i32At}
 use Rattle.lsm_format.specs.Lent.{filled}
 use Rattle.lsm_format.specs.Utf8.{lossy}
 use Rattle.lsm_format.specs.Channels.{pointers, colorAt, color, recordBy, nameRecord, recordOf, trimmed, nameBy, name, Channel, channelBy, channelIn, textOf, lookup, lookupMemory, colorAtRanges, colorRanges, nameByRanges, recordRanges, nameRanges, channelRanges, channelsRanges}
+use Rattle.lsm_format.proofs.Accepting.{accepting-need}
 use Rattle.lsm_format.proofs.Numbers.{part-past, part-there}
 use Rattle.lsm_format.proofs.Channels.{color-past, names-end, names-go, channel-inside}
-use Rattle.lsm_overwrite.proofs.TwoFiles.{in-file-at, part-law, part-listed, i32-law, i32-listed, bind-law}
+use Rattle.lsm_overwrite.proofs.TwoFiles.{in-file-at, part-law, part-listed, i32-law, i32-listed, bind-law, bind-accepting}
 
 -- a colour that is in the file
 color-listed : (f : List ℕ) (place : ℕ) → place + 4 ≤ length f → colorAtRanges f place ≡ at place 3
@@ -138,18 +139,13 @@ module _ (f g : List ℕ) (len : length g ≡ length f) where
   by-law o block channel (accepted p) a = rw (color-law block (p .0) channel (a .0), name-law o block (p .1) channel (a .1))
   by-law o block channel (refused row) a = refl
 
-  pub channel-law : (o : Order) (block : Option ℕ) (channel : ℕ) → Agree f g (channelRanges o f block channel) →
+  channel-law : (o : Order) (block : Option ℕ) (channel : ℕ) → Agree f g (channelRanges o f block channel) →
       channelIn o g block channel ≡ channelIn o f block channel
   unfolding channelIn channelRanges
   channel-law o nothing channel a = refl
   channel-law o (some block) channel a = rw (pointers-law o block (a .0)) (by-law o block channel (pointers o f block) (a .1))
 
-  pub lookup-law : (o : Order) (block : Option ℕ) (channels channel room : ℕ) → Agree f g (channelRanges o f block channel) →
-      lookup o g block channels channel room ≡ lookup o f block channels channel room
-  unfolding lookup
-  lookup-law o block channels channel room a = rw (channel-law o block channel a)
-
-  pub memory-law : (o : Order) (block : Option ℕ) (channels channel : ℕ) (lent : List ℕ) → Agree f g (channelRanges o f block channel) →
+  memory-law : (o : Order) (block : Option ℕ) (channels channel : ℕ) (lent : List ℕ) → Agree f g (channelRanges o f block channel) →
       lookupMemory o g block channels channel lent ≡ lookupMemory o f block channels channel lent
   unfolding lookupMemory
   memory-law o block channels channel lent a =
@@ -165,9 +161,26 @@ module _ (f g : List ℕ) (o : Order) (block : Option ℕ) where
   one-by false channels channel t h before last =
       let e : channel ≡ channels = omega (arith, ltb-false channel channels t) in rw e last
 
-  pub channels-law : (channels channel : ℕ) → channel < channels → Agree f g (channelsRanges o f block channels) →
+  channels-law : (channels channel : ℕ) → channel < channels → Agree f g (channelsRanges o f block channels) →
       Agree f g (channelRanges o f block channel)
   unfolding channelsRanges
   channels-law zero channel h a = absurd (omega arith)
   channels-law (suc channels) channel h a =
       one-by (ltb channel channels) channels channel refl h (λ k. channels-law channels channel k (a .0)) (a .1)
+
+  -- the lookup of any channel, where all that there are are listed: one that isn't there is refused unread
+  module _ (len : length g ≡ length f) (channels channel : ℕ) (w : Agree f g (channelsRanges o f block channels)) where
+    pub lookup-listed : (room : ℕ) → lookup o g block channels channel room ≡ lookup o f block channels channel room
+    unfolding lookup
+    lookup-listed room =
+        bind-accepting _ _ refl (accepting-need (outOfRange 0 0 channel 0) (ltb channel channels)) (λ _ t.
+        rw (channel-law f g len o block channel (channels-law channels channel (ltb-true channel channels t) w)))
+
+    memory-by : (b : Bool) (lent : List ℕ) → ltb channel channels ≡ b →
+        lookupMemory o g block channels channel lent ≡ lookupMemory o f block channels channel lent
+    unfolding lookupMemory
+    memory-by true lent t = memory-law f g len o block channels channel lent (channels-law channels channel (ltb-true channel channels t) w)
+    memory-by false lent t = rw (t, lookupMemory)
+
+    pub memory-listed : (lent : List ℕ) → lookupMemory o g block channels channel lent ≡ lookupMemory o f block channels channel lent
+    memory-listed lent = memory-by (ltb channel channels) lent refl

@@ -7,19 +7,12 @@ use mathlib.Core.List.{List}
 use lib.Dec.{leb}
 use lib.ListN.{length}
 use borrow.Author.Tests.{le-leb, leb-true}
-use Rattle.lsm_format.specs.Answer.{Result, accepted, refused, bind, need, decode}
+use Rattle.lsm_format.specs.Answer.{Result, need, decode}
 use Rattle.lsm_format.specs.Ranges.{inFile, On, Agree}
 use Rattle.lsm_format.specs.Numbers.{Order}
 use Rattle.lsm_format.specs.CzInfo.{header, extents, voxels, channelBlock, shots, from, rangeFrom, czInfo, czRanges}
 use Rattle.lsm_format.proofs.CzInfo.{need-accepted}
-use Rattle.lsm_overwrite.proofs.TwoFiles.{bind-law, over-law, number-law, i32-law}
-
--- one step and then the rest, which knows what the step gave
-given-law : {A B : Type 0} (m : Result A) {m′ : Result A} {k k′ : A → Result B} → m′ ≡ m → ((a : A) → m ≡ accepted a → k′ a ≡ k a) →
-    bind m′ k′ ≡ bind m k
-unfolding bind
-given-law (accepted a) e h = rw e (h a refl)
-given-law (refused row) e h = rw e
+use Rattle.lsm_overwrite.proofs.TwoFiles.{bind-law, bind-told, over-law, number-law, i32-law}
 
 module _ (f g : List ℕ) where
   -- a range that is in the file
@@ -38,9 +31,9 @@ module _ (f g : List ℕ) where
     header-law : (declared : ℕ) → Agree f g (inFile f block 8) → header o g block declared ≡ header o f block declared
     unfolding header
     header-law declared a =
-        given-law _ (ap (λ (n : ℕ). need decode (leb block n)) len) (λ _ start.
-        given-law _ refl (λ _ eight.
-        given-law _ (ap (λ (n : ℕ). need decode (leb declared (n - block))) len) (λ _ whole.
+        bind-told _ (ap (λ (n : ℕ). need decode (leb block n)) len) (λ _ start.
+        bind-told _ refl (λ _ eight.
+        bind-told _ (ap (λ (n : ℕ). need decode (leb declared (n - block))) len) (λ _ whole.
         let i : block ≤ length f = leb-true _ _ (need-accepted _ _ start) in
         let j : 8 ≤ declared = leb-true _ _ (need-accepted _ _ eight) in
         let k : declared ≤ length f - block = leb-true _ _ (need-accepted _ _ whole) in

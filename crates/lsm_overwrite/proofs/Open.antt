@@ -7,14 +7,14 @@ use mathlib.Core.Option.{Option, none, some}
 use mathlib.Core.Path.{_≡_, refl, ap, ap₂}
 use mathlib.Core.List.{List}
 use lib.Dec.{leb, eqb}
-use lib.ListN.{length, getD}
+use lib.ListN.{length}
 use borrow.Author.Tests.{leb-true, leb-false, lt-leb}
 use Rattle.lsm_format.specs.Answer.{Result, bind, need, given, parse, decode, oversizedAllocation}
-use Rattle.lsm_format.specs.Ranges.{inFile, flat, Inside, On, Agree}
+use Rattle.lsm_format.specs.Ranges.{inFile, On, Agree}
 use Rattle.lsm_format.specs.Numbers.{Order}
 use Rattle.lsm_format.specs.CzInfo.{CzInfo, czInfo}
 use Rattle.lsm_format.specs.Open.{orderMark, tiffHeader, Walk, start, chain, chainRanges, walk, walkRanges, czEntryRanges, describeWalk, fileLimit, Opened, read, openFile, openMemory, tableBy, openRanges}
-use Rattle.lsm_overwrite.proofs.TwoFiles.{agree, bind-law, over-law, in-file-at, number-law, number-last}
+use Rattle.lsm_overwrite.proofs.TwoFiles.{bind-law, over-law, in-file-at, number-law, number-last}
 use Rattle.lsm_overwrite.proofs.CzInfo.{cz-law}
 use Rattle.lsm_overwrite.proofs.Directory.{directory-law}
 
@@ -58,7 +58,7 @@ module _ (f g : List ℕ) (len : length g ≡ length f) where
   unfolding describeWalk
   describe-law o w a = bind-law _ refl (λ p. bind-law _ refl (λ _. bind-law _ refl (λ k. cz-by o (w .cz) _ a)))
 
-  read-law : Agree f g (openRanges f) → read g ≡ read f
+  pub read-law : Agree f g (openRanges f) → read g ≡ read f
   unfolding read openRanges
   read-law a =
       bind-law _ (ap (λ (n : ℕ). need (oversizedAllocation n fileLimit) (leb n fileLimit)) len) (λ _.
@@ -74,8 +74,3 @@ module _ (f g : List ℕ) (len : length g ≡ length f) where
   pub open-memory-law : Agree f g (openRanges f) → (lent : List ℕ) → openMemory g lent ≡ openMemory f lent
   unfolding openMemory
   open-memory-law a lent = ap (λ (r : Result Opened). tableBy r lent) (read-law a)
-
--- In document 01's words: what a file holds outside the listed bytes has no effect on opening. The list is drawn up from f.
-pub open-blind : (f g : List ℕ) → length g ≡ length f → ((p : ℕ) → Inside p (flat (openRanges f)) → getD g p 0 ≡ getD f p 0) →
-    ((room : ℕ) → openFile g room ≡ openFile f room) × ((lent : List ℕ) → openMemory g lent ≡ openMemory f lent)
-open-blind f g len h = (open-law f g len (agree f g (openRanges f) h), open-memory-law f g len (agree f g (openRanges f) h))

@@ -3,7 +3,7 @@
 use Prim.Native.Nat.{ℕ, zero, suc, _+_, _≤_, _<_}
 use native.Mathlib.Omega.{arith}
 use mathlib.Core.Bool.{Bool, true, false}
-use mathlib.Core.Path.{_≡_, refl, ap₂}
+use mathlib.Core.Path.{_≡_, refl, ap₂, subst}
 use mathlib.Core.Logic.{inl, inr}
 use mathlib.Core.List.{List, [], _∷_, _++_}
 use lib.Dec.{leb}
@@ -12,6 +12,7 @@ use borrow.Author.Tests.{le-leb, leb-true, leb-false}
 use Rattle.lsm_format.specs.Answer.{Result, accepted, refused, bind}
 use Rattle.lsm_format.specs.Ranges.{Ranges, none, at, both, over, inFile, flat, Inside, On, Agree}
 use Rattle.lsm_format.specs.Numbers.{Order, partAt, numberAt, numberRanges, i32At}
+use Rattle.lsm_format.proofs.Accepting.{Accepting}
 use Rattle.lsm_format.proofs.Numbers.{bytesNext, bytesFrom, part-bytes, part-past, part-there, number-past}
 
 -- a place in one of two lists of ranges is in both together
@@ -42,6 +43,19 @@ unfolding bind
 bind-told (accepted a) e h = rw e (h a refl)
 bind-told (refused row) e h = rw e
 
+-- the same, where the rest may know what holds of whatever the step accepts
+pub bind-accepting : {A B : Type 0} (P : A → Type 0) (m : Result A) {m′ : Result A} {k k′ : A → Result B} →
+    m′ ≡ m → Accepting P m → ((a : A) → P a → k′ a ≡ k a) → bind m′ k′ ≡ bind m k
+unfolding bind Accepting
+bind-accepting P (accepted a) e p h = rw e (h a p)
+bind-accepting P (refused row) e p h = rw e
+
+-- a file agrees with itself
+pub agree-self : (f : List ℕ) (r : Ranges) → Agree f f r
+agree-self f none = tt
+agree-self f (at start count) = λ p i. refl
+agree-self f (both r q) = (agree-self f r, agree-self f q)
+
 module _ (f g : List ℕ) where
   -- files that agree at every listed place agree on the ranges
   pub agree : (r : Ranges) → ((p : ℕ) → Inside p (flat r) → getD g p 0 ≡ getD f p 0) → Agree f g r
@@ -57,6 +71,30 @@ module _ (f g : List ℕ) where
   unfolding bind over
   over-law (accepted a) r e w h = rw e (h a w)
   over-law (refused row) r e w h = rw e
+
+  -- the same, where the rest may know what holds of whatever the step accepts
+  pub over-told : {A B : Type 0} (P : A → Type 0) (m : Result A) {m′ : Result A} {k k′ : A → Result B} (r : A → Ranges) → m′ ≡ m →
+      Accepting P m → Agree f g (over m r) → ((a : A) → P a → Agree f g (r a) → k′ a ≡ k a) → bind m′ k′ ≡ bind m k
+  unfolding bind over Accepting
+  over-told P (accepted a) r e p w h = rw e (h a p w)
+  over-told P (refused row) r e p w h = rw e
+
+  -- what is listed after a step that was accepted
+  pub over-given : {A : Type 0} (m : Result A) (r : A → Ranges) (a : A) → m ≡ accepted a → Agree f g (over m r) → Agree f g (r a)
+  unfolding over
+  over-given m r a e w = subst (λ (x : Result _). Agree f g (over x r)) e w
+
+  -- ranges that are read after a step, where they agree whatever it accepts
+  pub over-accepting : {A : Type 0} (P : A → Type 0) (m : Result A) (r : A → Ranges) → Accepting P m → ((a : A) → P a → Agree f g (r a)) →
+      Agree f g (over m r)
+  unfolding over Accepting
+  over-accepting P (accepted a) r p h = h a p
+  over-accepting P (refused row) r p h = tt
+
+  pub over-all : {A : Type 0} (m : Result A) (r : A → Ranges) → ((a : A) → Agree f g (r a)) → Agree f g (over m r)
+  unfolding over
+  over-all (accepted a) r h = h a
+  over-all (refused row) r h = tt
 
   -- agreement on a range is agreement on each part of it
   pub on-part : (s n t m : ℕ) → On f g s n → (s ≤ t) × (t + m ≤ s + n) → On f g t m

@@ -88,7 +88,7 @@ abbrev G-dims : Dims
 G-dims = record { t = 1; c = 1; z = 1; y = 1; x = 2 }
 
 -- what opening G gives
-abbrev G-opened : Opened
+abbrev pub G-opened : Opened
 G-opened =
     record {
       description =

@@ -1,1 +1,2 @@
-// Document 01's marked cases. Nothing runs here: proofs/Table.antt states each case about the definitions of lsm_format/specs.
+// Document 01's marked cases. Nothing runs here: proofs/Table.antt states each case about the definitions of lsm_format/specs, and
+// proofs/Listed.antt the list of the bytes that are read of the file G.

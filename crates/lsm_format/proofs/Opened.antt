@@ -1,0 +1,90 @@
+-- What holds of every file that opens: it has a header, and its table holds as many pages as its description has. Assumes nothing.
+use Prim.Native.Nat.{ℕ, _*_, _/_, _%_, _≤_, max}
+use native.Mathlib.Nat.{div-add-mod', mul-comm}
+use native.Mathlib.Omega.{arith}
+use mathlib.Core.Bool.{true, not, _&&_}
+use mathlib.Core.Option.{Option}
+use mathlib.Core.Path.{_≡_, refl, sym, subst, _∙_}
+use mathlib.Core.List.{List}
+use lib.Dec.{leb, eqb}
+use lib.IntN.{ℤ}
+use lib.ListN.{length}
+use borrow.Author.Tests.{leb-true, eqb-true}
+use Rattle.lsm_format.specs.Answer.{parse, decode}
+use Rattle.lsm_format.specs.Words.{word}
+use Rattle.lsm_format.specs.Numbers.{Order}
+use Rattle.lsm_format.specs.Sizes.{Kind}
+use Rattle.lsm_format.specs.Scenes.{Layout, layout, pagesExpected}
+use Rattle.lsm_format.specs.CzInfo.{CzInfo}
+use Rattle.lsm_format.specs.Directory.{Directory}
+use Rattle.lsm_format.specs.Open.{Walk, Description, Opened, tiffHeader, agreement, layoutFor, describe, describeWalk, tableWords, read}
+use Rattle.lsm_format.specs.Picture.{stripsPerPage}
+use Rattle.lsm_format.proofs.Words.{word-some}
+use Rattle.lsm_format.proofs.Accepting.{Accepting, accepting-bind, accepting-then, accepting-need, accepting-given, both-hold}
+use Rattle.lsm_format.proofs.Pages.{Even, walk-even}
+
+-- The table has the words of every page of the description, whose planes are as many as each scene's pages.
+pub record Fits (d : Description) (table : List ℕ) : Type 0 where
+  pub deep : d .dims .z ≡ d .layout .depth
+  pub words : length table ≡ d .layout .scenes * d .layout .depth * stripsPerPage d * 2
+
+-- "strips per channel": the strips of a page are shared out evenly
+shares : ℕ → ℕ → Type 0
+shares n channels = (not (eqb n 0) && eqb (n % channels) 0) ≡ true
+
+shared : (n channels : ℕ) → shares n channels → channels * (n / channels) ≡ n
+unfolding shares
+shared n channels t =
+    let even : n % channels ≡ 0 = eqb-true _ _ (both-hold (not (eqb n 0)) (eqb (n % channels) 0) t .1) in
+    omega (arith, div-add-mod' n channels, mul-comm channels (n / channels))
+
+agreement-shares : (p : Directory) (i : CzInfo) →
+    Accepting (λ (u : Unit {0}). shares (length (p .offsets)) (max 1 (p .samples))) (agreement p i)
+unfolding agreement shares
+agreement-shares p i =
+    accepting-then _ _ _ (λ _. accepting-then _ _ _ (λ _. accepting-then _ _ _ (λ _. accepting-then _ _ _ (λ _. accepting-need decode _))))
+
+-- "layout, page count"
+layout-depth : (p m : ℤ) (depth : ℕ) → Accepting (λ (l : Layout). l .depth ≡ depth) (layout p m depth)
+unfolding layout Accepting
+layout-depth p m depth = accepting-then _ _ _ (λ n. refl)
+
+layout-pages : (i : CzInfo) (pages : ℕ) →
+    Accepting (λ (l : Layout). (l .depth ≡ max 1 (i .dimZ)) × (pages ≡ l .scenes * l .depth)) (layoutFor i pages)
+unfolding layoutFor pagesExpected Accepting
+layout-pages i pages =
+    accepting-bind _ _ _ _ (layout-depth (i .dimP) (i .dimM) (max 1 (i .dimZ))) (λ l e.
+    accepting-bind _ _ _ _ (accepting-given decode (word (l .scenes * l .depth))) (λ n w.
+    accepting-bind _ _ _ _ (accepting-need decode (eqb pages n)) (λ _ t. (e, eqb-true _ _ t ∙ word-some _ _ w .0))))
+
+describe-fits : (o : Order) (k : Kind) (p : Directory) (pages : ℕ) (i : CzInfo) (table : List ℕ) →
+    length table ≡ pages * length (p .offsets) * 2 → Accepting (λ (d : Description). Fits d table) (describe o k p pages i)
+unfolding describe Accepting
+describe-fits o k p pages i table e =
+    accepting-bind _ _ _ _ (agreement-shares p i) (λ _ s.
+    accepting-bind _ _ _ _ (layout-pages i pages) (λ l h.
+    record { deep = sym (h .0); words = rw (shared (length (p .offsets)) (max 1 (p .samples)) s, ← h .1) e }))
+
+walk-fits : (o : Order) (f : List ℕ) (w : Walk) → Even (w .first) (w .pages) →
+    Accepting (λ (d : Description). Fits d (tableWords (w .pages))) (describeWalk o f w)
+unfolding describeWalk Even
+walk-fits o f w even =
+    accepting-bind _ _ _ _ (accepting-given decode (w .first)) (λ p e.
+    accepting-then _ _ _ (λ _.
+    accepting-then _ _ _ (λ k.
+    accepting-then _ _ _ (λ cz.
+    accepting-then _ _ _ (λ i.
+    describe-fits o k p (length (w .pages)) i (tableWords (w .pages)) (subst (λ (x : Option Directory). Even x (w .pages)) e even))))))
+
+header-there : (f : List ℕ) → Accepting (λ (o : Order). 8 ≤ length f) (tiffHeader f)
+unfolding tiffHeader Accepting
+header-there f =
+    accepting-bind _ _ _ _ (accepting-need parse (leb 8 (length f))) (λ _ t.
+    accepting-then _ _ _ (λ o. accepting-then _ _ _ (λ magic. accepting-then _ _ _ (λ _. leb-true _ _ t))))
+
+pub read-fits : (f : List ℕ) → Accepting (λ (x : Opened). (8 ≤ length f) × Fits (x .description) (x .table)) (read f)
+unfolding read Accepting
+read-fits f =
+    accepting-then _ _ _ (λ _.
+    accepting-bind _ _ _ _ (header-there f) (λ o there.
+    accepting-bind _ _ _ _ (walk-even o f) (λ w even. accepting-bind _ _ _ _ (walk-fits o f w even) (λ d fits. (there, fits)))))

@@ -1,0 +1,63 @@
+-- Document 01's list, "The bytes that are read", drawn up from one file: the whole list, and the one of a single rectangle.
+use Prim.Native.Nat.{ℕ, zero, suc, _+_, _*_}
+use mathlib.Core.Bool.{Bool, true, false}
+use mathlib.Core.List.{List, [], _∷_}
+use lib.ListN.{length}
+use Rattle.lsm_format.specs.Ranges.{Ranges, none, at, both, over, inFile}
+use Rattle.lsm_format.specs.Sizes.{sampleSize}
+use Rattle.lsm_format.specs.Rectangle.{Rect, rectangle, isEmpty}
+use Rattle.lsm_format.specs.Channels.{channelsRanges}
+use Rattle.lsm_format.specs.Open.{Description, read, openRanges}
+use Rattle.lsm_format.specs.Picture.{place, coordinate, regionStrips}
+
+-- ---- the whole list
+
+-- "the in-file strips of full pages": the table has the offset and the count of each
+unfoldable pub stripsRanges : List ℕ → List ℕ → Ranges
+stripsRanges f [] = none
+stripsRanges f (offset ∷ []) = none
+stripsRanges f (offset ∷ count ∷ words) = both (inFile f offset count) (stripsRanges f words)
+
+-- "in the channel block [..]", of every channel
+abbrev pub channelBlockRanges : List ℕ → Description → Ranges
+channelBlockRanges f d = channelsRanges (d .order) f (d .channelBlock) (d .dims .c)
+
+-- "The 8-byte header; each visited directory [..]; in the CZ block used [..]; in the channel block [..]; the in-file strips of full
+-- pages."
+unfoldable pub listed : List ℕ → Ranges
+listed f = both (openRanges f) (over (read f) (λ x. both (channelBlockRanges f (x .description)) (stripsRanges f (x .table))))
+
+-- ---- the list of one rectangle
+
+-- What is read at a, a + 1, .., a + n - 1.
+unfoldable pub spanRanges : ℕ → ℕ → (ℕ → Ranges) → Ranges
+spanRanges a zero r = none
+spanRanges a (suc n) r = both (r a) (spanRanges (suc a) n r)
+
+-- A sample's bytes, "stored at (row × width + column) × sample size" of the channel's joined strips, each at its place in the file.
+unfoldable pub sampleRanges : Description → List ℕ → ℕ → ℕ → ℕ → Ranges
+sampleRanges d table first row column =
+    spanRanges ((row * d .dims .x + column) * sampleSize (d .kind)) (sampleSize (d .kind))
+    (λ k. at (place table first (d .stripsPerChannel) k) 1)
+
+-- "of the strips only the places of its samples in the channel's joined strips"
+unfoldable pub windowRanges : Description → List ℕ → Rect → ℕ → Ranges
+windowRanges d table r first =
+    spanRanges (r .y) (r .h) (λ row. spanRanges (r .x) (r .w) (λ column. sampleRanges d table first row column))
+
+-- An empty rectangle has no samples.
+abbrev pub filledRanges : Bool → Description → List ℕ → List ℕ → ℕ → ℕ → ℕ → ℕ → Rect → Ranges
+filledRanges true d table f scene t c z r = none
+filledRanges false d table f scene t c z r =
+    over (regionStrips d table (length f) scene t c z r) (λ first. windowRanges d table r first)
+
+-- "none if it isn't accepted": the checks of region in their order; the room in the buffer isn't among them, since "accepted means not
+-- refused, or refused with 7 only".
+unfoldable pub regionRanges : Description → List ℕ → List ℕ → ℕ → ℕ → ℕ → ℕ → Rect → Ranges
+regionRanges d table f scene t c z r =
+    over (coordinate d scene t c z) (λ _. over (rectangle (d .dims) r) (λ _. filledRanges (isEmpty r) d table f scene t c z r))
+
+-- "For one rectangle, of the strips only the places of its samples [..]; opening and that rectangle's call then answer alike."
+unfoldable pub listedFor : List ℕ → ℕ → ℕ → ℕ → ℕ → Rect → Ranges
+listedFor f scene t c z r =
+    both (openRanges f) (over (read f) (λ x. regionRanges (x .description) (x .table) f scene t c z r))

@@ -1,0 +1,89 @@
+-- Demand 3, "Blind to spare bytes: document 01's list says which bytes are read; overwriting any other byte of an accepted file changes
+-- no answer of opening, plane, region or channel lookup. One statement about two files, proved." The statement is `SpareBytes` at the
+-- end, and `SpareSamples` for one rectangle; proofs/Blind.antt proves both. The list is `listed` of lsm_format/specs/Listed.antt.
+use Prim.Native.Nat.{ℕ}
+use mathlib.Core.Path.{_≡_}
+use mathlib.Core.List.{List}
+use lib.ListN.{length, getD}
+use Rattle.lsm_format.specs.Answer.{Result, accepted}
+use Rattle.lsm_format.specs.Ranges.{Ranges, flat, Inside}
+use Rattle.lsm_format.specs.Rectangle.{Rect}
+use Rattle.lsm_format.specs.Channels.{Channel, lookup, lookupMemory}
+use Rattle.lsm_format.specs.Open.{Opened, openFile, openMemory}
+use Rattle.lsm_format.specs.Picture.{Samples, plane, region, into, bufferBy}
+use Rattle.lsm_format.specs.Listed.{listed, listedFor}
+
+-- "overwriting any other byte": g is f with bytes overwritten, any number of them, that are not on the list. "File length counts as
+-- read."
+pub record Overwritten (list : Ranges) (f g : List ℕ) : Type 0 where
+  pub sameLength : length g ≡ length f
+  pub sameListed : (p : ℕ) → Inside p (flat list) → getD g p 0 ≡ getD f p 0
+
+-- What a caller holds who has opened a file: "the description and table that opening that same file gave, whatever lent memory held".
+-- The memory lent for the table may be of any length that opening accepts, and past the table's words it is as it was.
+pub record Held (f : List ℕ) : Type 0 where
+  pub lent : List ℕ
+  pub opened : Opened
+  pub gave : openFile f (length lent) ≡ accepted opened
+
+-- ---- the later calls, with what is held
+
+abbrev pub planeOf : (f : List ℕ) → Held f → ℕ → ℕ → ℕ → ℕ → Result Samples
+planeOf f h scene t c z = plane (h .opened .description) (openMemory f (h .lent)) f scene t c z
+
+abbrev pub regionOf : (f : List ℕ) → Held f → ℕ → ℕ → ℕ → ℕ → Rect → Result Samples
+regionOf f h scene t c z r = region (h .opened .description) (openMemory f (h .lent)) f scene t c z r
+
+abbrev pub lookupOf : (f : List ℕ) → Held f → ℕ → ℕ → Result Channel
+lookupOf f h channel room =
+    lookup (h .opened .description .order) f (h .opened .description .channelBlock) (h .opened .description .dims .c) channel room
+
+abbrev pub lookupLeft : (f : List ℕ) → Held f → ℕ → List ℕ → List ℕ
+lookupLeft f h channel buffer =
+    lookupMemory (h .opened .description .order) f (h .opened .description .channelBlock) (h .opened .description .dims .c) channel buffer
+
+-- ---- opening
+
+-- Opening answers alike: the description and the count of directories, or the refusal with its numbers, whatever room the table has;
+-- and it leaves the same in the table.
+pub record OpensAlike (f g : List ℕ) : Type 0 where
+  pub openAnswer : (room : ℕ) → openFile g room ≡ openFile f room
+  pub openLeaves : (lent : List ℕ) → openMemory g lent ≡ openMemory f lent
+
+-- ---- one rectangle's call
+
+-- Before and after, with what the opening of that same file gave: the same samples or refusal, whatever room the buffer has, and the same
+-- left in the buffer.
+pub record RegionAlike (f g : List ℕ) (scene t c z : ℕ) (r : Rect) : Type 0 where
+  pub regionAnswer : (a : Held f) (b : Held g) (room : ℕ) → into (regionOf g b scene t c z r) room ≡ into (regionOf f a scene t c z r) room
+  pub regionLeaves : (a : Held f) (b : Held g) (buffer : List ℕ) →
+      bufferBy (regionOf g b scene t c z r) buffer ≡ bufferBy (regionOf f a scene t c z r) buffer
+
+-- ---- every call
+
+-- "changes no answer of opening, plane, region or channel lookup", whatever a call's other arguments
+pub record Blind (f g : List ℕ) : Type 0 where
+  pub opening : OpensAlike f g
+  pub planeAnswer : (a : Held f) (b : Held g) (scene t c z room : ℕ) →
+      into (planeOf g b scene t c z) room ≡ into (planeOf f a scene t c z) room
+  pub planeLeaves : (a : Held f) (b : Held g) (scene t c z : ℕ) (buffer : List ℕ) →
+      bufferBy (planeOf g b scene t c z) buffer ≡ bufferBy (planeOf f a scene t c z) buffer
+  pub regions : (scene t c z : ℕ) (r : Rect) → RegionAlike f g scene t c z r
+  pub lookupAnswer : (a : Held f) (b : Held g) (channel room : ℕ) → lookupOf g b channel room ≡ lookupOf f a channel room
+  pub lookupLeaves : (a : Held f) (b : Held g) (channel : ℕ) (buffer : List ℕ) →
+      lookupLeft g b channel buffer ≡ lookupLeft f a channel buffer
+
+-- "opening and that rectangle's call then answer alike"
+pub record BlindFor (f g : List ℕ) (scene t c z : ℕ) (r : Rect) : Type 0 where
+  pub opening : OpensAlike f g
+  pub rectangle : RegionAlike f g scene t c z r
+
+-- ---- the statement
+
+-- "The list is drawn up before overwriting": from f. Where opening refuses f nothing is held, and opening alone answers, alike.
+abbrev pub SpareBytes : Type 0
+SpareBytes = (f g : List ℕ) → Overwritten (listed f) f g → Blind f g
+
+-- "For one rectangle, of the strips only the places of its samples"
+abbrev pub SpareSamples : Type 0
+SpareSamples = (f g : List ℕ) (scene t c z : ℕ) (r : Rect) → Overwritten (listedFor f scene t c z r) f g → BlindFor f g scene t c z r

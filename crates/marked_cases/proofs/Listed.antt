@@ -1,0 +1,126 @@
+-- The list of the small file G, computed; what the statement about two files says of G, and that it would be false with a shorter list.
+use Prim.Native.Nat.{ℕ, _+_}
+use native.Mathlib.Omega.{arith}
+use mathlib.Core.Bool.{Bool, true, false, _&&_, _||_}
+use mathlib.Core.Path.{_≡_, refl}
+use mathlib.Core.List.{List, [], _∷_, _++_}
+use mathlib.Core.Logic.{inl, inr}
+use lib.Dec.{leb, ltb}
+use lib.ListN.{set}
+use borrow.Author.Tests.{le-leb, lt-ltb}
+use Rattle.lsm_format.specs.Answer.{bind}
+use Rattle.lsm_format.specs.Ranges.{over, inFile, flat, Inside}
+use Rattle.lsm_format.specs.Words.{word}
+use Rattle.lsm_format.specs.Numbers.{partAt, numberAt, i32At, signed32}
+use Rattle.lsm_format.specs.Sizes.{pictureSize, unlimitedSize}
+use Rattle.lsm_format.specs.Rectangle.{Rect, coordinates, rectangle}
+use Rattle.lsm_format.specs.Scenes.{layout, scenes, pagesExpected, pageOf}
+use Rattle.lsm_format.specs.Lent.{lend, filled}
+use Rattle.lsm_format.specs.CzInfo.{czInfo, header, extents, voxels, channelBlock, shots, czRanges}
+use Rattle.lsm_format.specs.Channels.{channelsRanges, channelRanges}
+use Rattle.lsm_format.specs.Directory.{directory, entries, entry, scalar, scalarPlace, array, arrayPlace, numbers, valuePlace, typeSize, integerSize, entryRanges, entriesRanges, directoryRanges}
+use Rattle.lsm_format.specs.Open.{openFile, openMemory, read, tiffHeader, walk, chain, join, describeWalk, agreement, layoutFor, describe, chainRanges, walkRanges, openRanges}
+use Rattle.lsm_format.specs.Picture.{total, place, stored, inside, span, bytes, picture, each, window, channelStrips, coordinate, planeStrips, channelPicture, samplesIn, plane, wholeStrips, rowsIn, wholeChannel, wholeChannels, wholePages, wholeRows, windowStrips, regionStrips}
+use Rattle.lsm_format.specs.Listed.{stripsRanges, listed, spanRanges, sampleRanges, windowRanges, regionRanges, listedFor}
+use Rattle.lsm_overwrite.specs.Blind.{Overwritten, Held, Blind, BlindFor}
+use Rattle.lsm_overwrite.proofs.Blind.{blind, blind-rectangle, overwrite}
+use Rattle.marked_cases.proofs.Table.{G, G-opened}
+
+-- ---- the list
+
+-- what opening G reads: the header; the directory, its count first; the scalars and strip arrays, each in its entry; the CZ block, its first
+-- eight bytes first
+abbrev G-open : List (ℕ × ℕ)
+G-open =
+    (0, 8) ∷ (8, 2) ∷ (8, 78) ∷ (18, 2) ∷ (30, 2) ∷ (42, 2) ∷ (54, 2) ∷ (66, 2) ∷ (88, 8) ∷ (88, 28) ∷ []
+
+-- "G's rectangle at column 1, 1 by 1"
+abbrev second : Rect
+second = record { x = 1; y = 0; w = 1; h = 1 }
+
+opening-lists : flat (openRanges G) ≡ G-open
+unfolding openRanges walkRanges chainRanges directoryRanges entriesRanges entryRanges czRanges over inFile flat tiffHeader walk chain join directory entries entry scalar scalarPlace array arrayPlace numbers valuePlace typeSize integerSize header i32At signed32 numberAt partAt bind
+opening-lists = refl
+
+-- with G's strip; 86 and 87 are spare
+all-lists : flat (listed G) ≡ G-open ++ (116, 2) ∷ []
+unfolding listed stripsRanges channelsRanges channelRanges openRanges read describeWalk agreement layoutFor describe czInfo extents voxels channelBlock shots layout scenes pagesExpected word walkRanges chainRanges directoryRanges entriesRanges entryRanges czRanges over inFile flat tiffHeader walk chain join directory entries entry scalar scalarPlace array arrayPlace numbers valuePlace typeSize integerSize header i32At signed32 numberAt partAt bind
+all-lists = refl
+
+-- "of the strips only the places of its samples in the channel's joined strips": "byte 117", and not 116
+second-lists : flat (listedFor G 0 0 0 0 second) ≡ G-open ++ (117, 1) ∷ []
+unfolding listedFor regionRanges windowRanges sampleRanges spanRanges place coordinate coordinates rectangle regionStrips wholeRows wholePages wholeChannels wholeChannel wholeStrips rowsIn windowStrips pictureSize unlimitedSize channelStrips pageOf inside openRanges read describeWalk agreement layoutFor describe czInfo extents voxels channelBlock shots layout scenes pagesExpected word walkRanges chainRanges directoryRanges entriesRanges entryRanges czRanges over inFile flat tiffHeader walk chain join directory entries entry scalar scalarPlace array arrayPlace numbers valuePlace typeSize integerSize header i32At signed32 numberAt partAt bind
+second-lists = refl
+
+-- "none if it isn't accepted": a rectangle that passes the picture; and none of an empty one
+passing-lists : flat (listedFor G 0 0 0 0 (record { x = 1; y = 0; w = 2; h = 1 })) ≡ G-open
+unfolding listedFor regionRanges windowRanges sampleRanges spanRanges place coordinate coordinates rectangle regionStrips wholeRows wholePages wholeChannels wholeChannel wholeStrips rowsIn windowStrips pictureSize unlimitedSize channelStrips pageOf inside openRanges read describeWalk agreement layoutFor describe czInfo extents voxels channelBlock shots layout scenes pagesExpected word walkRanges chainRanges directoryRanges entriesRanges entryRanges czRanges over inFile flat tiffHeader walk chain join directory entries entry scalar scalarPlace array arrayPlace numbers valuePlace typeSize integerSize header i32At signed32 numberAt partAt bind
+passing-lists = refl
+
+empty-lists : flat (listedFor G 0 0 0 0 (record { x = 1; y = 0; w = 0; h = 1 })) ≡ G-open
+unfolding listedFor regionRanges windowRanges sampleRanges spanRanges place coordinate coordinates rectangle regionStrips wholeRows wholePages wholeChannels wholeChannel wholeStrips rowsIn windowStrips pictureSize unlimitedSize channelStrips pageOf inside openRanges read describeWalk agreement layoutFor describe czInfo extents voxels channelBlock shots layout scenes pagesExpected word walkRanges chainRanges directoryRanges entriesRanges entryRanges czRanges over inFile flat tiffHeader walk chain join directory entries entry scalar scalarPlace array arrayPlace numbers valuePlace typeSize integerSize header i32At signed32 numberAt partAt bind
+empty-lists = refl
+
+-- ---- on the list or not
+
+covers : List (ℕ × ℕ) → ℕ → Bool
+covers [] p = false
+covers (r ∷ rs) p = (leb (r .0) p && ltb p (r .0 + r .1)) || covers rs p
+
+neither : (a b : Bool) → (a || b) ≡ false → (a ≡ false) × (b ≡ false)
+neither true b t = let z : true ≡ false = t in (cc, cc)
+neither false b t = (refl, t)
+
+spare : (rs : List (ℕ × ℕ)) (p : ℕ) → covers rs p ≡ false → Inside p rs → ⊥
+unfolding covers
+spare [] p t i = i
+spare (r ∷ rs) p t (inl i) =
+    let e : (leb (r .0) p && ltb p (r .0 + r .1)) ≡ false = neither _ (covers rs p) t .0 in
+    let z : true ≡ false = rw (le-leb (r .0) p (i .0), lt-ltb p (r .0 + r .1) (i .1)) at e in
+    let n : _≡_ {A = ℕ} 0 1 = cc in
+    absurd (omega arith)
+spare (r ∷ rs) p t (inr i) = spare rs p (neither (leb (r .0) p && ltb p (r .0 + r .1)) (covers rs p) t .1) i
+
+-- G with its first sample overwritten
+abbrev G-eight : List ℕ
+G-eight = set G 116 8
+
+-- what the statement says of G: 86 is spare, and for the rectangle at column 1 so is 116
+spare-86 : Blind G (set G 86 8)
+unfolding covers
+spare-86 = blind G (set G 86 8) (overwrite (listed G) G 86 8 (rw all-lists (spare (G-open ++ (116, 2) ∷ []) 86 refl)))
+
+spare-116 : BlindFor G G-eight 0 0 0 0 second
+unfolding covers
+spare-116 =
+    blind-rectangle G G-eight 0 0 0 0 second
+    (overwrite (listedFor G 0 0 0 0 second) G 116 8 (rw second-lists (spare (G-open ++ (117, 1) ∷ []) 116 refl)))
+
+-- ---- with a shorter list the statement would be false
+
+held : Held G
+unfolding openFile lend read describeWalk agreement layoutFor describe czInfo extents voxels channelBlock shots layout scenes pagesExpected word tiffHeader walk chain join directory entries entry scalar scalarPlace array arrayPlace numbers valuePlace typeSize integerSize header i32At signed32 numberAt partAt bind
+held = record { lent = 0 ∷ 0 ∷ []; opened = G-opened; gave = refl }
+
+held-eight : Held G-eight
+unfolding openFile lend read describeWalk agreement layoutFor describe czInfo extents voxels channelBlock shots layout scenes pagesExpected word tiffHeader walk chain join directory entries entry scalar scalarPlace array arrayPlace numbers valuePlace typeSize integerSize header i32At signed32 numberAt partAt bind
+held-eight = record { lent = 0 ∷ 0 ∷ []; opened = G-opened; gave = refl }
+
+-- the samples of plane tell G from G with another first sample
+differ : Blind G G-eight → ⊥
+unfolding held held-eight openMemory filled plane planeStrips total samplesIn channelPicture each picture stored place span bytes window coordinate coordinates pictureSize unlimitedSize channelStrips pageOf inside openFile lend read describeWalk agreement layoutFor describe czInfo extents voxels channelBlock shots layout scenes pagesExpected word tiffHeader walk chain join directory entries entry scalar scalarPlace array arrayPlace numbers valuePlace typeSize integerSize header i32At signed32 numberAt partAt bind
+differ b =
+    let e : _≡_ {A = List ℕ} (8 ∷ 9 ∷ []) (7 ∷ 9 ∷ []) = b .planeLeaves held held-eight 0 0 0 0 (0 ∷ 0 ∷ []) in
+    let n : _≡_ {A = ℕ} 8 7 = cc in
+    omega arith
+
+-- without the strips
+strips-listed : ((f g : List ℕ) → Overwritten (openRanges f) f g → Blind f g) → ⊥
+unfolding covers
+strips-listed h = differ (h G G-eight (overwrite (openRanges G) G 116 8 (rw opening-lists (spare G-open 116 refl))))
+
+-- with a rectangle's samples alone
+samples-listed : ((f g : List ℕ) → Overwritten (listedFor f 0 0 0 0 second) f g → Blind f g) → ⊥
+unfolding covers
+samples-listed h =
+    differ (h G G-eight (overwrite (listedFor G 0 0 0 0 second) G 116 8 (rw second-lists (spare (G-open ++ (117, 1) ∷ []) 116 refl))))
