@@ -80,10 +80,10 @@ module _ (z : Float) where
       go (fin s m e) h k = rw h
 
   module _ (h : le z (ofBits binary32 0) ≡ false) (k : lt z (ofBits binary32 0x7f80_0000) ≡ true) where
-    pub step-placeholder : lt z (ofBits binary32 0x3586_37bd) ≡ true → placeholder (figure z) ≡ zStep z
+    pub step-placeholder : lt z (ofBits binary32 0x3586_37bd) ≡ true → placeholder z ≡ zStep z
     step-placeholder t = rw (step-finite h k, t)
 
-    pub step-large : lt z (ofBits binary32 0x3586_37bd) ≡ false → lt (ofBits binary32 0x447a_0000) z ≡ true → tooLarge (figure z) ≡ zStep z
+    pub step-large : lt z (ofBits binary32 0x3586_37bd) ≡ false → lt (ofBits binary32 0x447a_0000) z ≡ true → tooLarge z ≡ zStep z
     step-large t u = rw (step-finite h k, t, rw largest-is at u)
 
     pub step-used : lt z (ofBits binary32 0x3586_37bd) ≡ false → lt (ofBits binary32 0x447a_0000) z ≡ false → used z ≡ zStep z

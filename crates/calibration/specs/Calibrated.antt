@@ -8,12 +8,11 @@ use Rattle.calibration.specs.declared.ZStep.the-variants.{Used, Absent, 
 use Rattle.calibration.specs.declared.Calibration.{Calibration}
 use Rattle.calibration.specs.declared.Calibration.the-variants.{Uncalibrated, Sized}
 
--- A step that gives a note is kept; the note's figure is the step's.
 abbrev pub stepOf : ZStep → Rule.ZStep
 stepOf (Used z) = used z
 stepOf Absent = absent
-stepOf (Placeholder z) = placeholder (figure z)
-stepOf (TooLarge z) = tooLarge (figure z)
+stepOf (Placeholder z) = placeholder z
+stepOf (TooLarge z) = tooLarge z
 
 abbrev pub calibrationOf : Calibration → Rule.Calibration
 calibrationOf Uncalibrated = uncalibrated

@@ -84,12 +84,12 @@ figure (fin false (suc m) e) =
 
 -- ---- the Z step
 
--- What a Z step becomes: it is used; there is none and no note; there is none and a note with a figure says why.
+-- What a Z step becomes: it is used; there is none and no note; there is none and a note says why, with the step's figure.
 pub data ZStep : Type 0 where
   used : Float → ZStep
   absent : ZStep
-  placeholder : List ℕ → ZStep
-  tooLarge : List ℕ → ZStep
+  placeholder : Float → ZStep
+  tooLarge : Float → ZStep
 
 abbrev pub nought : Float
 nought = fin false 0 (pos 0)
@@ -104,8 +104,8 @@ largestStep = fin false 125 (pos 3)
 -- A finite step by its place: not above 0, below the smallest, above the largest, or between.
 abbrev pub stepBy : Bool → Bool → Bool → Float → ZStep
 stepBy true below above z = absent
-stepBy false true above z = placeholder (figure z)
-stepBy false false true z = tooLarge (figure z)
+stepBy false true above z = placeholder z
+stepBy false false true z = tooLarge z
 stepBy false false false z = used z
 
 -- "Z, once narrowed: not finite or ≤ 0, none and no note", and so on
