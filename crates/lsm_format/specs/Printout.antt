@@ -10,7 +10,7 @@ use lib.ListN.{length}
 use Rattle.lsm_format.specs.Answer.{Result, accepted, refused}
 use Rattle.lsm_format.specs.Sizes.{Kind, u8, u16, i16, f32}
 use Rattle.lsm_format.specs.Rectangle.{Dims}
-use Rattle.lsm_format.specs.Calibration.{Calibration, uncalibrated, sized, ZStep, used, absent, placeholder, tooLarge, digit}
+use Rattle.lsm_format.specs.Calibration.{Calibration, uncalibrated, sized, ZStep, used, absent, placeholder, tooLarge, figure, digit}
 use Rattle.lsm_format.specs.Channels.{Channel, channelIn}
 use Rattle.lsm_format.specs.Open.{Description, Opened, openFile}
 
@@ -78,8 +78,8 @@ sizeText (fin s m e) = hexDigits 8 (toBits binary32 (fin s m e))
 abbrev pub stepText : ZStep → List ℕ
 stepText (used z) = sizeText z
 stepText absent = dash
-stepText (placeholder figure) = dash
-stepText (tooLarge figure) = dash
+stepText (placeholder z) = dash
+stepText (tooLarge z) = dash
 
 abbrev pub sizesText : Calibration → List ℕ
 sizesText uncalibrated = dash ++ 32 ∷ [] ++ dash ++ 32 ∷ [] ++ dash
@@ -132,8 +132,8 @@ largeWord = 116 ∷ 111 ∷ 111 ∷ 45 ∷ 108 ∷ 97 ∷ 114 ∷ 103 ∷ 101 �
 abbrev pub stepNotes : ZStep → List (List ℕ)
 stepNotes (used z) = noNote ∷ []
 stepNotes absent = noNote ∷ []
-stepNotes (placeholder figure) = oneNote ∷ (placeholderWord ++ figure) ∷ []
-stepNotes (tooLarge figure) = oneNote ∷ (largeWord ++ figure) ∷ []
+stepNotes (placeholder z) = oneNote ∷ (placeholderWord ++ figure z) ∷ []
+stepNotes (tooLarge z) = oneNote ∷ (largeWord ++ figure z) ∷ []
 
 unfoldable pub noteLines : Calibration → List (List ℕ)
 noteLines uncalibrated = noNote ∷ []

@@ -1,5 +1,4 @@
--- Document 01's marked cases (◆), one table about the definitions, each row with the document's words beside it. A row about
--- G's pictures stands here as far as the definitions reach.
+-- Document 01's marked cases (◆), one table about the definitions, each row with the document's words beside it.
 use Prim.Native.Nat.{ℕ}
 use mathlib.Core.Path.{_≡_, refl}
 use mathlib.Core.List.{List, [], _∷_}
@@ -8,16 +7,17 @@ use mathlib.Core.Bool.{false}
 use lib.IntN.{pos}
 use lib.ListN.{set}
 use lib.Ieee.{fin, binary32, ofBits, ofFields, odd}
-use Rattle.lsm_format.specs.Answer.{accepted, refused, bind}
+use Rattle.lsm_format.specs.Answer.{Result, accepted, refused, bind}
 use Rattle.lsm_format.specs.Words.{word}
 use Rattle.lsm_format.specs.Numbers.{little, partAt, numberAt, i32At, signed32}
 use Rattle.lsm_format.specs.Sizes.{u8, pictureSize, unlimitedSize}
-use Rattle.lsm_format.specs.Rectangle.{Dims, rectangle, isEmpty}
-use Rattle.lsm_format.specs.Scenes.{layout, scenes, pagesExpected}
+use Rattle.lsm_format.specs.Rectangle.{Dims, coordinates, rectangle}
+use Rattle.lsm_format.specs.Scenes.{layout, scenes, pagesExpected, pageOf}
 use Rattle.lsm_format.specs.Lent.{lend}
 use Rattle.lsm_format.specs.CzInfo.{czInfo, header, extents, voxels, channelBlock, shots}
 use Rattle.lsm_format.specs.Directory.{directory, entries, entry, scalar, scalarPlace, array, arrayPlace, numbers, valuePlace, typeSize, integerSize}
 use Rattle.lsm_format.specs.Open.{Opened, openFile, read, tiffHeader, walk, chain, join, describeWalk, agreement, layoutFor, describe}
+use Rattle.lsm_format.specs.Picture.{Samples, coordinate, plane, planeStrips, channelStrips, inside, total, samplesIn, channelPicture, window, span, picture, bytes, stored, place, each as eachSample, region, regionStrips, wholeRows, wholePages, wholeChannels, wholeChannel, wholeStrips, rowsIn, windowStrips}
 use Rattle.lsm_format.specs.Utf8.{lossy, lossyBy, piece}
 use Rattle.lsm_format.specs.Calibration.{uncalibrated, figure, tensAbove, tensBelow}
 use Rattle.lsm_format.specs.Channels.{channelIn}
@@ -137,23 +137,28 @@ opening :
 unfolding openFile read tiffHeader walk chain join directory entries entry scalar scalarPlace array arrayPlace numbers valuePlace typeSize integerSize describeWalk agreement layoutFor describe czInfo header extents voxels channelBlock shots i32At signed32 numberAt partAt layout scenes pagesExpected word lend bind
 opening = (refl, refl, refl, refl, refl, refl, refl, refl, refl)
 
--- "plane is 2": the picture has two bytes, and a strip of 3 or 1 is not that
-G-size : pictureSize 2 1 u8 ≡ accepted 2
-unfolding pictureSize unlimitedSize word bind
-G-size = refl
+-- What plane and region answer, with the description and the table that opening gave.
+abbrev G-plane : List ℕ → Result Samples
+G-plane f = bind (openFile f 2) (λ x. plane (x .description) (x .table) f 0 0 0 0)
 
--- "an empty rectangle is accepted"
-G-empty : rectangle G-dims (record { x = 0; y = 0; w = 0; h = 0 }) ≡ accepted tt
-unfolding rectangle
-G-empty = refl
+abbrev G-region : List ℕ → ℕ → ℕ → ℕ → ℕ → Result Samples
+G-region f x y w h = bind (openFile f 2) (λ o. region (o .description) (o .table) f 0 0 0 0 (record { x = x; y = y; w = w; h = h }))
 
--- "◆G's rectangle at column 1, 1 by 1": it lies in the picture and is not empty
-G-rectangle : rectangle G-dims (record { x = 1; y = 0; w = 1; h = 1 }) ≡ accepted tt
-unfolding rectangle
-G-rectangle = refl
-
-G-rectangle-full : isEmpty (record { x = 1; y = 0; w = 1; h = 1 }) ≡ false
-G-rectangle-full = refl
+pictures :
+    -- "Bytes 116 and 117 are 7 and 9": G's picture
+    (G-plane G ≡ accepted (record { rows = 1; columns = 2; bytes = 7 ∷ 9 ∷ [] }))
+    -- "◆Strip byte count 3: opens, plane is 2."
+    × (G-plane (G-with 66 3) ≡ refused (2 ∷ []))
+    -- "◆Strip byte count 1: opens, plane is 2,"
+    × (G-plane (G-with 66 1) ≡ refused (2 ∷ []))
+    -- "an empty rectangle is accepted."
+    × (G-region (G-with 66 1) 0 0 0 1 ≡ accepted (record { rows = 1; columns = 0; bytes = [] }))
+    -- "◆G's rectangle at column 1, 1 by 1, is byte 117."
+    × (G-region G 1 0 1 1 ≡ accepted (record { rows = 1; columns = 1; bytes = 9 ∷ [] }))
+    -- the same rectangle where plane is refused
+    × (G-region (G-with 66 1) 1 0 1 1 ≡ refused (2 ∷ []))
+unfolding openFile read tiffHeader walk chain join directory entries entry scalar scalarPlace array arrayPlace numbers valuePlace typeSize integerSize describeWalk agreement layoutFor describe czInfo header extents voxels channelBlock shots i32At signed32 numberAt partAt layout scenes pagesExpected word lend bind coordinate coordinates rectangle plane planeStrips pictureSize unlimitedSize channelStrips pageOf inside total samplesIn channelPicture window span picture bytes stored place eachSample region regionStrips wholeRows wholePages wholeChannels wholeChannel wholeStrips rowsIn windowStrips
+pictures = (refl, refl, refl, refl, refl, refl)
 
 -- ---- what the lister prints
 
@@ -177,5 +182,5 @@ printed : printout G ≡
     ∷ 45 ∷ 32 ∷ 45 ∷ 10
     -- notes 0
     ∷ 110 ∷ 111 ∷ 116 ∷ 101 ∷ 115 ∷ 32 ∷ 48 ∷ 10 ∷ []
-unfolding printout text acceptedLines headLines dimsLine kindLine pixelLine scenesLine sceneLine channelsLine channelLine noteLines each decimal decimalBy channelIn openFile read tiffHeader walk chain join directory entries entry scalar scalarPlace array arrayPlace numbers valuePlace typeSize integerSize describeWalk describe czInfo header extents voxels channelBlock shots i32At signed32 numberAt partAt layout scenes pagesExpected word lend bind
+unfolding printout text acceptedLines headLines dimsLine kindLine pixelLine scenesLine sceneLine channelsLine channelLine noteLines each decimal decimalBy channelIn openFile read tiffHeader walk chain join directory entries entry scalar scalarPlace array arrayPlace numbers valuePlace typeSize integerSize describeWalk agreement layoutFor describe czInfo header extents voxels channelBlock shots i32At signed32 numberAt partAt layout scenes pagesExpected word lend bind
 printed = refl
