@@ -1,0 +1,140 @@
+// A stand-in for the library: it answers with the words of the C interface what a copy of the original answers. With the original
+// itself it shows that the comparison is sound; with an edited copy, that a broken rule is noticed.
+use crate::walk::walk;
+use other::probe::{self, Memory, Opened, Refused};
+
+#[derive(Default)]
+pub struct StandIn {
+    memory: Memory,
+    file: Vec<u8>,
+    found: Option<Result<Opened, Refused>>,
+    visited: usize,
+    beside: Memory,
+    beside_file: Vec<u8>,
+    handed: Option<Opened>,
+}
+
+// What it says where the original has no answer.
+pub const SILENT: usize = 98;
+
+// Whether the words are a description.
+fn describes(w: &[usize; 17]) -> bool {
+    let float = |n: usize| u32::try_from(n).is_ok_and(|n| !f32::from_bits(n).is_nan());
+    let sizes = w[10] == 0 || (float(w[11]) && float(w[12]) && w[13] <= 3 && (w[13] == 1 || float(w[14])));
+    w[0] <= 1 && w[1] <= 3 && w[10] <= 1 && sizes && w[15] <= 1
+}
+
+fn say(answer: &mut [usize], words: &[usize]) -> usize {
+    answer.fill(0);
+    answer[..words.len()].copy_from_slice(words);
+    answer[0]
+}
+
+impl StandIn {
+    fn look(&mut self, file: &[u8]) -> &Result<Opened, Refused> {
+        if self.found.is_none() || self.file != file {
+            self.found = None;
+            self.file.clear();
+            self.file.extend(file);
+            let mut found = probe::open(&mut self.memory, file);
+            let w = walk(file);
+            self.visited = w.visited;
+            if let Ok(o) = &mut found {
+                if o.note.is_some() {
+                    o.words[14] = w.z_step(file).unwrap_or(0) as usize;
+                }
+            }
+            self.found = Some(found);
+        }
+        self.found.as_ref().unwrap()
+    }
+
+    // The reader of this description and table over this file: the one that opening gave, or one that is made so.
+    fn reader(&mut self, file: &[u8], words: &[usize; 17], table: Option<&[usize]>) -> Option<&Opened> {
+        let fits = |o: &Opened| o.words == *words && table.is_none_or(|t| o.table == t);
+        if self.file == file && matches!(&self.found, Some(Ok(o)) if fits(o)) {
+            return self.found.as_ref().and_then(|f| f.as_ref().ok());
+        }
+        if self.beside_file != file || !self.handed.as_ref().is_some_and(fits) {
+            self.handed = None;
+            self.beside_file.clear();
+            self.beside_file.extend(file);
+            self.handed = probe::handed(&mut self.beside, file, words, table.unwrap_or(&[]));
+        }
+        self.handed.as_ref()
+    }
+
+    pub fn open(&mut self, file: &[u8], table: &mut [usize], answer: &mut [usize; 20]) -> usize {
+        self.look(file);
+        let visited = self.visited;
+        match self.found.as_ref().unwrap() {
+            Err(r) => say(answer, &r.row),
+            Ok(o) if table.len() < o.table.len() => say(answer, &[7, o.table.len()]),
+            Ok(o) => {
+                table[..o.table.len()].copy_from_slice(&o.table);
+                let mut words = vec![0, visited, o.table.len()];
+                words.extend(o.words);
+                say(answer, &words)
+            }
+        }
+    }
+
+    pub fn channel(
+        &mut self,
+        file: &[u8],
+        description: &[usize; 17],
+        channel: usize,
+        name: &mut [u8],
+        answer: &mut [usize; 8],
+    ) -> usize {
+        if !describes(description) {
+            return say(answer, &[2]);
+        }
+        if description[3] <= channel {
+            return say(answer, &[6, 0, 0, channel, 0]);
+        }
+        let Some(o) = self.reader(file, description, None) else {
+            return say(answer, &[SILENT]);
+        };
+        let Some(c) = o.channels.get(channel) else {
+            return say(answer, &[SILENT]);
+        };
+        let text = c.name.as_deref().unwrap_or("").as_bytes();
+        if name.len() < text.len() {
+            return say(answer, &[7, text.len()]);
+        }
+        name[..text.len()].copy_from_slice(text);
+        let [r, g, b] = c.colour.unwrap_or([0; 3]).map(usize::from);
+        say(answer, &[0, c.colour.is_some() as usize, r, g, b, c.name.is_some() as usize, text.len(), 0])
+    }
+
+    pub fn picture(
+        &mut self,
+        file: &[u8],
+        description: &[usize; 17],
+        table: &[usize],
+        at: [usize; 4],
+        rect: Option<[usize; 4]>,
+        out: &mut [u8],
+        answer: &mut [usize; 5],
+    ) -> usize {
+        if !describes(description) {
+            return say(answer, &[2]);
+        }
+        let Some(o) = self.reader(file, description, Some(table)) else {
+            return say(answer, &[SILENT]);
+        };
+        let found = match rect {
+            None => o.plane(at),
+            Some(rect) => o.region(at, rect),
+        };
+        match found {
+            Err(r) => say(answer, &r.row),
+            Ok(p) if out.len() < p.bytes.len() => say(answer, &[7, p.bytes.len()]),
+            Ok(p) => {
+                out[..p.bytes.len()].copy_from_slice(&p.bytes);
+                say(answer, &[0, p.height, p.width, p.bytes.len(), 0])
+            }
+        }
+    }
+}
