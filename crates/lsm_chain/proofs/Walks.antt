@@ -1,20 +1,20 @@
 -- Laws of the walk along the directories. Assumes nothing.
 use Prim.Native.Nat.{ℕ, suc, _+_, _-_, _*_, _≤_, _<_}
 use native.Mathlib.Nat.{add-zero, not-le-of-lt}
-use native.Mathlib.Numerals.{add-one}
 use native.Mathlib.Omega.{arith}
 use mathlib.Core.Bool.{Bool, true, false, cond}
 use mathlib.Core.Path.{_≡_, refl, sym, ap, _∙_}
 use mathlib.Core.List.{List, [], _∷_, _++_, append-nil, append-assoc}
 use lib.Dec.{eqb}
 use lib.ListN.{length, getD, take, drop, set, length-append, length-set, take-append-drop}
-use lib.Seq.{take-all, take-suc, take-suc-set, take-at, drop-at, drop-drop}
+use lib.Seq.{take-at, drop-at, drop-drop}
 use borrow.Author.Tests.{ne-eqb}
 use borrow.Rule.Slice.PartMut.{putMid, post-is}
 use Rattle.lsm_format.specs.Answer.{Result, accepted, refused, bind, need, parse, decode}
 use Rattle.lsm_format.specs.Numbers.{Order, u16At, u32At}
 use Rattle.lsm_format.specs.Directory.{Directory, plain, entries, directory}
 use Rattle.lsm_format.specs.Open.{Page, Walk, arraysOf, join, chain, stripWords, tableWords}
+use Rattle.lsm_format.proofs.Lists.{take-store, take-full}
 use Rattle.lsm_format.proofs.Open.{strip-words-length, strip-offset, strip-count, table-words-more}
 use Rattle.lsm_directory.specs.declared.Directory.{Directory as Kept}
 use Rattle.lsm_directory.specs.declared.StripArray.{StripArray}
@@ -80,24 +80,15 @@ pub paired : (d : Kept) (r : WalkAnswer) → d .offsets .count ≡ d .counts .co
 paired d (Walked w) e = e
 paired d (Refused r) e = tt
 
--- a list filled from the front with another's elements
-take-store : (l m : List ℕ) (i v : ℕ) → i < length m → length l ≡ length m → v ≡ getD m i 0 → take i l ≡ take i m → take (i + 1) (set l i v) ≡ take (i + 1) m
-take-store l m i v h e is q =
-    let u : i < length l = omega arith in
-    rw (add-one, take-suc-set l i v, take-suc m i 0, q, is)
-
-take-full : (l m : List ℕ) (i : ℕ) → length l ≡ length m → length m ≤ i → take i l ≡ take i m → l ≡ m
-take-full l m i e h q = sym (take-all i l (omega arith)) ∙ q ∙ take-all i m h
-
 -- one strip more
 take-strip : (l os cs : List ℕ) (i v c : ℕ) → length os ≡ length cs → length l ≡ 2 * length os → i < length os → v ≡ getD os i 0 → c ≡ getD cs i 0 →
     take (2 * i) l ≡ take (2 * i) (stripWords os cs) → take (2 * (i + 1)) (set (set l (2 * i) v) (2 * i + 1) c) ≡ take (2 * (i + 1)) (stripWords os cs)
 take-strip l os cs i v c e n h vs cs′ q =
     let w : length (stripWords os cs) ≡ 2 * length os = strip-words-length os cs e in
-    let s : length (set l (2 * i) v) ≡ length (stripWords os cs) = rw length-set (omega arith) in
     let t : 2 * (i + 1) ≡ 2 * i + 1 + 1 = omega arith in
-    rw t (take-store (set l (2 * i) v) (stripWords os cs) (2 * i + 1) c (omega arith) s (cs′ ∙ sym (strip-count os cs e i h))
-    (take-store l (stripWords os cs) (2 * i) v (omega arith) (omega arith) (vs ∙ sym (strip-offset os cs e i h)) q))
+    rw (t, vs, cs′, ← strip-offset os cs e i h, ← strip-count os cs e i h)
+    (take-store (set l (2 * i) (getD (stripWords os cs) (2 * i) 0)) (stripWords os cs) (2 * i + 1) (omega arith) (rw length-set (omega arith))
+    (take-store l (stripWords os cs) (2 * i) (omega arith) (omega arith) q))
 
 module _ (o : Order) (f : List ℕ) (offsets counts : StripArray) (e : counts .count ≡ offsets .count) where
   equal : length (valuesOf o f offsets) ≡ length (valuesOf o f counts)

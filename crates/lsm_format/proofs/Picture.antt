@@ -19,6 +19,7 @@ use Rattle.lsm_format.specs.Scenes.{pageOf}
 use Rattle.lsm_format.specs.Open.{Description}
 use Rattle.lsm_format.specs.Picture.{offsetOf, countOf, total, place, stored, inside, span, bytes, picture, each, window, stripsPerPage, hasPage, firstStrip, channelStrips, coordinate, planeStrips}
 use Rattle.lsm_format.proofs.Words.{word-fits, word-some}
+use Rattle.lsm_format.proofs.Accepting.{both-hold}
 
 -- ---- parts joined
 
@@ -323,10 +324,6 @@ unfolding bind
 bind-then (accepted a) k b e go = go a refl e
 bind-then (refused row) k b e go = let z : _≡_ {A = ℕ} 0 1 = cc in absurd (omega arith)
 
-pub both-true : (a b : Bool) → (a && b) ≡ true → (a ≡ true) × (b ≡ true)
-both-true true b e = (refl, e)
-both-true false b e = let z : _≡_ {A = ℕ} 0 1 = cc in absurd (omega arith)
-
 -- ---- sizes
 
 module _ (w h : ℕ) (k : Kind) where
@@ -356,14 +353,14 @@ coordinate-channel d scene t c z u e =
     bind-then (need (sceneOutOfRange scene (d .layout .scenes)) (ltb scene (d .layout .scenes))) _ u e
     (λ a e₁ e₂.
     let b = need-true _ (ltb t (d .dims .t) && ltb c (d .dims .c) && ltb z (d .dims .z)) u e₂ in
-    ltb-true c (d .dims .c) (both-true (ltb t (d .dims .t)) (ltb c (d .dims .c)) (both-true (ltb t (d .dims .t) && ltb c (d .dims .c)) (ltb z (d .dims .z)) b .0) .1))
+    ltb-true c (d .dims .c) (both-hold (ltb t (d .dims .t)) (ltb c (d .dims .c)) (both-hold (ltb t (d .dims .t) && ltb c (d .dims .c)) (ltb z (d .dims .z)) b .0) .1))
 
 pub rectangle-within : (d : Dims) (r : Rect) (u : Unit {0}) → rectangle d r ≡ accepted u → (r .x + r .w ≤ d .x) × (r .y + r .h ≤ d .y)
 unfolding rectangle
 rectangle-within d r u e =
-    let b = both-true (within (r .x) (r .w) (d .x)) (within (r .y) (r .h) (d .y)) (need-true _ _ u e) in (
-      leb-true _ _ (both-true (ltb (r .x + r .w) (2 ^ 64)) (leb (r .x + r .w) (d .x)) (b .0) .1),
-      leb-true _ _ (both-true (ltb (r .y + r .h) (2 ^ 64)) (leb (r .y + r .h) (d .y)) (b .1) .1),
+    let b = both-hold (within (r .x) (r .w) (d .x)) (within (r .y) (r .h) (d .y)) (need-true _ _ u e) in (
+      leb-true _ _ (both-hold (ltb (r .x + r .w) (2 ^ 64)) (leb (r .x + r .w) (d .x)) (b .0) .1),
+      leb-true _ _ (both-hold (ltb (r .y + r .h) (2 ^ 64)) (leb (r .y + r .h) (d .y)) (b .1) .1),
     )
 
 -- ---- pages
@@ -372,7 +369,7 @@ rectangle-within d r u e =
 pub page-there : (d : Description) (words page : ℕ) → hasPage d words page ≡ true
     → (0 < stripsPerPage d) × (2 * (page * stripsPerPage d + stripsPerPage d) ≤ words)
 page-there d words page e =
-    let b = both-true (not (eqb (stripsPerPage d) 0)) (leb (2 * ((page + 1) * stripsPerPage d)) words) e in
+    let b = both-hold (not (eqb (stripsPerPage d) 0)) (leb (2 * ((page + 1) * stripsPerPage d)) words) e in
     let q : (page + 1) * stripsPerPage d ≡ page * stripsPerPage d + stripsPerPage d = rw (add-one, suc-mul) in
     let n = eqb-false (stripsPerPage d) 0 (not-true _ (b .0)) in
     let l : 2 * ((page + 1) * stripsPerPage d) ≤ words = leb-true _ _ (b .1) in

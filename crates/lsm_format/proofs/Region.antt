@@ -14,7 +14,8 @@ use Rattle.lsm_format.specs.Sizes.{Kind, sampleSize, pictureBytes, pictu
 use Rattle.lsm_format.specs.Rectangle.{Rect, rectangle, isEmpty}
 use Rattle.lsm_format.specs.Open.{Description}
 use Rattle.lsm_format.specs.Picture.{Samples, countOf, total, stored, picture, toLittle, each, window, channelStrips, coordinate, planeStrips, channelPicture, samplesIn, wholePicture, plane, rowBytes, wholeStrips, rowsIn, wholeChannel, wholeRows, windowBy, windowStrips, regionBy, regionStrips, filledRegion, region}
-use Rattle.lsm_format.proofs.Picture.{held, Even, picture-length, window-length, window-at, window-window, both-true, bind-then, size-is, size-fits, rectangle-within, strips-nowhere, strips-judged, plane-accepted}
+use Rattle.lsm_format.proofs.Picture.{held, Even, picture-length, window-length, window-at, window-window, bind-then, size-is, size-fits, rectangle-within, strips-nowhere, strips-judged, plane-accepted}
+use Rattle.lsm_format.proofs.Accepting.{both-hold}
 
 -- ---- numbers of a rectangle
 
@@ -35,7 +36,7 @@ whole-total : (row : ℕ) (t : List ℕ) (i n : ℕ) → wholeStrips row t i n �
 unfolding total wholeStrips rowsIn
 whole-total row t i zero w = rw zero-mul
 whole-total row t i (suc n) w =
-    let b = both-true (eqb (countOf t i % row) 0) (wholeStrips row t (i + 1) n) w in
+    let b = both-hold (eqb (countOf t i % row) 0) (wholeStrips row t (i + 1) n) w in
     let m : countOf t i % row ≡ 0 = eqb-true _ _ (b .0) in
     rw (whole-total row t (i + 1) n (b .1), add-mul) (omega (arith, div-add-mod' (countOf t i) row, m))
 
@@ -44,7 +45,7 @@ pub whole-bytes : (d : Description) (t : List ℕ) (first : ℕ) → wholeChanne
     → total t first (d .stripsPerChannel) ≡ d .dims .y * rowBytes d
 unfolding wholeChannel
 whole-bytes d t first w =
-    let b = both-true (wholeStrips (rowBytes d) t first (d .stripsPerChannel)) (eqb (rowsIn (rowBytes d) t first (d .stripsPerChannel)) (d .dims .y)) w in
+    let b = both-hold (wholeStrips (rowBytes d) t first (d .stripsPerChannel)) (eqb (rowsIn (rowBytes d) t first (d .stripsPerChannel)) (d .dims .y)) w in
     whole-total (rowBytes d) t first (d .stripsPerChannel) (b .0) ∙ ap (λ (k : ℕ). k * rowBytes d) (eqb-true _ _ (b .1))
 
 -- where the picture is not oversized, a rectangle of it is decided by plane's checks

@@ -2,6 +2,7 @@
 // its bytes. tools/list_files.py makes them.
 use libc::STDIN_FILENO;
 use lsm_printout::print;
+ghost use mathlib.Core.Path.{_≡_};
 ghost use Prim.Native.Nat.{_+_, _≤_, _<_};
 ghost use lib.ListN.{length};
 
@@ -40,7 +41,9 @@ fn next(all: &[u8], at: usize, out: &mut [u8]) -> usize
     end
 }
 
-fn list_all(all: &[u8], out: &mut [u8]) {
+fn list_all(all: &[u8], out: &mut [u8])
+    ensures { λ _. ⌜ length (now (out .exit)) ≡ length (now (out .entry)) ⌝ }
+{
     let mut at = 0;
     while at < all.len() {
         at = next(all, at, out);

@@ -7,18 +7,9 @@ use mathlib.Core.Path.{_≡_, refl, sym, ap, _∙_}
 use mathlib.Core.List.{List, [], _∷_, _++_, append-assoc, reverse}
 use borrow.Rule.Slice.PartMut.{putMid, drop-put}
 use lib.ListN.{length, set, getD, take, drop, length-drop, length-append, length-reverse}
-use lib.Seq.{take-suc, take-suc-set, take-all, take-at, length-take-le, drop-drop}
+use lib.Seq.{take-all, take-at, length-take-le, drop-drop}
 use Rattle.lsm_format.specs.Picture.{span, bytes}
 use Rattle.lsm_format.proofs.Picture.{held, span-snoc, bytes-length, bytes-run}
-
-pub take-store : (l m : List ℕ) (i : ℕ) → i < length m → length l ≡ length m → take i l ≡ take i m → take (i + 1) (set l i (getD m i 0)) ≡ take (i + 1) m
-take-store l m i h e q =
-    let u : i < length l = omega arith in
-    rw (add-one, take-suc-set l i (getD m i 0), take-suc m i 0, q)
-
--- the whole list is filled
-pub take-full : (l m : List ℕ) (i : ℕ) → length l ≡ length m → length m ≤ i → take i l ≡ take i m → l ≡ m
-take-full l m i e h q = sym (take-all i l (omega arith)) ∙ q ∙ take-all i m h
 
 -- ---- a part from a on took m bytes
 

@@ -17,8 +17,9 @@ use Rattle.lsm_format.specs.Open.{Description}
 use Rattle.lsm_format.specs.Picture.{offsetOf, countOf, total, inside, wholeStrips, rowsIn, stripsPerPage, hasPage, firstStrip, channelStrips, coordinate, planeStrips, rowBytes, wholeChannel, wholeChannels, wholePages, wholeRows, windowBy, windowStrips, regionStrips}
 use Rattle.lsm_format.specs.Rectangle.{Rect, coordinates}
 use Rattle.lsm_format.proofs.Words.{word-some, word-none}
-use Rattle.lsm_format.proofs.Picture.{total-step, inside-none, inside-past, inside-next, page-there, page-missing, both-true, strips-oversized, strips-judged}
+use Rattle.lsm_format.proofs.Picture.{total-step, inside-none, inside-past, inside-next, page-there, page-missing, strips-oversized, strips-judged}
 use Rattle.lsm_region.specs.Parts.{made, wholeRowsOf, pageIn, wholePage, rowStrips}
+use Rattle.lsm_format.proofs.Accepting.{both-hold}
 
 -- ---- tests of equality
 
@@ -345,7 +346,7 @@ module _ (d : Description) (t : List ℕ) (len scene time c z : ℕ) where
 pub whole-row : (d : Description) (t : List ℕ) → wholeRows d t ≡ true → (0 < rowBytes d) × (rowBytes d < 2 ^ 64)
 unfolding wholeRows
 whole-row d t e =
-    let a = both-true (not (eqb (rowBytes d) 0)) (ltb (rowBytes d) (2 ^ 64) && (ltb (d .layout .scenes * d .layout .depth) (2 ^ 64) && wholePages d t (d .layout .scenes * d .layout .depth))) e in
-    let b = both-true (ltb (rowBytes d) (2 ^ 64)) (ltb (d .layout .scenes * d .layout .depth) (2 ^ 64) && wholePages d t (d .layout .scenes * d .layout .depth)) (a .1) in
+    let a = both-hold (not (eqb (rowBytes d) 0)) (ltb (rowBytes d) (2 ^ 64) && (ltb (d .layout .scenes * d .layout .depth) (2 ^ 64) && wholePages d t (d .layout .scenes * d .layout .depth))) e in
+    let b = both-hold (ltb (rowBytes d) (2 ^ 64)) (ltb (d .layout .scenes * d .layout .depth) (2 ^ 64) && wholePages d t (d .layout .scenes * d .layout .depth)) (a .1) in
     let n = eqb-false (rowBytes d) 0 (not-true _ (a .0)) in
     (omega arith, ltb-true _ _ (b .0))

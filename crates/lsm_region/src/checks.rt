@@ -24,7 +24,7 @@ ghost use Rattle.lsm_reader.specs.Code.{descriptionOf};
 ghost use Rattle.lsm_region.specs.Parts.{firstOf, rowStrips};
 
 // The scene, then t, c and z.
-pub fn checked_place(d: Description, scene: usize, t: usize, c: usize, z: usize) -> Check
+pub(crate) fn checked_place(d: Description, scene: usize, t: usize, c: usize, z: usize) -> Check
     ensures { λ r. ⌜ checkOf r ≡ coordinate (descriptionOf d) scene t c z ⌝ }
 {
     let layout = d.layout;
@@ -66,7 +66,7 @@ fn sized_strips(
 }
 
 // Plane's checks after the coordinate: size, page, strips.
-pub fn plane_strips(
+pub(crate) fn plane_strips(
     d: Description,
     table: &[usize],
     len: usize,
@@ -155,7 +155,7 @@ fn window_strips(
 
 // Region's checks after the rectangle. Where the picture isn't oversized plane's checks decide, whatever the strips of other pages
 // hold; so the test over all pages is made for an oversized picture only.
-pub fn region_strips(
+pub(crate) fn region_strips(
     d: Description,
     table: &[usize],
     len: usize,

@@ -200,7 +200,7 @@ fn turn(out: &mut [u8], s: usize, m: usize)
 }
 
 // The samples of a rectangle, little-endian whatever the file's order.
-pub fn fill(
+pub(crate) fn fill(
     file: &[u8],
     table: &[usize],
     d: Description,

@@ -31,7 +31,7 @@ fn has_page(strips: usize, words: usize, page: usize) -> bool
 }
 
 // The first strip of a channel of the page that a scene's focal plane has.
-pub fn channel_strips(
+pub(crate) fn channel_strips(
     d: Description,
     words: usize,
     scene: usize,
@@ -110,7 +110,7 @@ fn whole_pages(d: Description, table: &[usize], pages: usize, row: usize) -> boo
 }
 
 // Whether every page's strips hold whole rows.
-pub fn whole_rows(d: Description, table: &[usize]) -> bool
+pub(crate) fn whole_rows(d: Description, table: &[usize]) -> bool
     ensures { λ r. ⌜ r ≡ wholeRows (descriptionOf d) (now (table .entry)) ⌝ }
 {
     let dims = d.dims;

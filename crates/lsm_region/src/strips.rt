@@ -17,7 +17,7 @@ fn lies_within(offset: usize, count: usize, len: usize) -> bool
 }
 
 // Whether each of the strips lies in a file of so many bytes.
-pub fn strips_inside(table: &[usize], first: usize, n: usize, len: usize) -> bool
+pub(crate) fn strips_inside(table: &[usize], first: usize, n: usize, len: usize) -> bool
     requires { ⌜ 2 * (first + n) ≤ length (now table) ⌝ }
     ensures { λ r. ⌜ r ≡ inside (now (table .entry)) len first n ⌝ }
 {
@@ -35,7 +35,7 @@ pub fn strips_inside(table: &[usize], first: usize, n: usize, len: usize) -> boo
 
 // Whether each of the strips lies in the file, and all of them together have the picture's bytes. What is still to come of these
 // bytes is counted down, since the strips' sum can overflow.
-pub fn strips_make(table: &[usize], first: usize, n: usize, len: usize, size: usize) -> bool
+pub(crate) fn strips_make(table: &[usize], first: usize, n: usize, len: usize, size: usize) -> bool
     requires { ⌜ 2 * (first + n) ≤ length (now table) ⌝ }
     ensures { λ r. ⌜ r ≡ made (now (table .entry)) len first n size ⌝ }
 {
@@ -58,7 +58,7 @@ pub fn strips_make(table: &[usize], first: usize, n: usize, len: usize, size: us
 }
 
 // Whether each of the strips holds whole rows, and all of them together the picture's. The rows still to come are counted down.
-pub fn strips_of_rows(table: &[usize], first: usize, n: usize, row: usize, height: usize) -> bool
+pub(crate) fn strips_of_rows(table: &[usize], first: usize, n: usize, row: usize, height: usize) -> bool
     requires { ⌜ (2 * (first + n) ≤ length (now table)) × (0 < row) ⌝ }
     ensures { λ r. ⌜ r ≡ wholeRowsOf row (now (table .entry)) first n height ⌝ }
 {

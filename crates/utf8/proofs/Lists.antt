@@ -1,23 +1,11 @@
 -- Laws of a list that is filled from the front. Assumes nothing.
-use Prim.Native.Nat.{ℕ, _+_, _-_, _<_, _≤_}
-use native.Mathlib.Numerals.{add-one}
+use Prim.Native.Nat.{ℕ, _+_, _-_, _≤_}
 use native.Mathlib.Omega.{arith}
-use mathlib.Core.Path.{_≡_, sym, _∙_}
+use mathlib.Core.Path.{_≡_}
 use mathlib.Core.List.{List, _++_, append-assoc}
 use borrow.Rule.Slice.PartMut.{putMid}
-use lib.ListN.{length, set, getD, take, length-append}
-use lib.Seq.{take-suc, take-suc-set, take-all, take-at, length-take-le}
-
--- one more element of m is stored
-pub take-store : (l m : List ℕ) (i : ℕ) → i < length m → length l ≡ length m → take i l ≡ take i m
-    → take (i + 1) (set l i (getD m i 0)) ≡ take (i + 1) m
-take-store l m i h e q =
-    let u : i < length l = omega arith in
-    rw (add-one, take-suc-set l i (getD m i 0), take-suc m i 0, q)
-
--- all of them are stored
-pub take-full : (l m : List ℕ) (i : ℕ) → length l ≡ length m → length m ≤ i → take i l ≡ take i m → l ≡ m
-take-full l m i e h q = sym (take-all i l (omega arith)) ∙ q ∙ take-all i m h
+use lib.ListN.{length, take, length-append}
+use lib.Seq.{take-at, length-take-le}
 
 -- a part behind the first a elements is stored
 pub take-put : (a m : ℕ) (xs ys : List ℕ) → a + m ≤ length xs → length ys ≡ m

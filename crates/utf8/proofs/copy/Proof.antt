@@ -4,7 +4,7 @@ use native.Mathlib.Omega.{arith}
 use mathlib.Core.Path.{_≡_, refl}
 use borrow.Author.Needs.{needs}
 use lib.ListN.{length, take, length-set}
-use Rattle.utf8.proofs.Lists.{take-store, take-full}
+use Rattle.lsm_format.proofs.Lists.{take-store, take-full}
 use Rattle.utf8.proofs.copy.Statement.{statement}
 use Rattle.utf8.proofs.copy.Tie as tie
 

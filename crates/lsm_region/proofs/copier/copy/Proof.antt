@@ -4,7 +4,7 @@ use Prim.Native.Nat.{_≤_, _-_}
 use native.Mathlib.Omega.{arith}
 use borrow.Author.Needs.{needs}
 use lib.ListN.{length, take, length-set}
-use Rattle.lsm_region.proofs.Filling.{take-store, take-full}
+use Rattle.lsm_format.proofs.Lists.{take-store, take-full}
 use Rattle.lsm_region.proofs.copier.copy.Statement.{statement}
 use Rattle.lsm_region.proofs.copier.copy.Tie as tie
 
