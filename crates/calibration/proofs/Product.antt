@@ -48,7 +48,7 @@ narrow-number nan h = h
 narrow-number (inf s) h = tt
 narrow-number (fin s m e) h = round-number binary32 s (m * up e) (down e)
 
-narrow-fits : (v : Float) → T (fits binary32 (narrow v))
+pub narrow-fits : (v : Float) → T (fits binary32 (narrow v))
 unfolding narrow
 narrow-fits nan = nan-fits binary32
 narrow-fits (inf s) = inf-fits binary32 s

@@ -118,9 +118,10 @@ module _ (f g lent lent′ t t′ : List ℕ) (x y : Opened) (o : OpenedAs f len
         let k = gave g lent′ t′ y o′ in
         let b = blind f g w in
         let q = looked-held f _ _ (h .description) channel before after a p in
-        let q′ = looked-held g _ _ (k .description) channel before after′ a′ p′ in
-        (q′ .answered ∙ ap seen (b .lookupAnswer (h .held) (k .held) channel (length before)) ∙ sym (q .answered),
-          q′ .memory ∙ b .lookupLeaves (h .held) (k .held) channel before ∙ sym (q .memory))
+        let q′ = looked-held g _ _ (k .description) channel before after′ a′ p′ in (
+          q′ .answered ∙ ap seen (b .lookupAnswer (h .held) (k .held) channel (length before)) ∙ sym (q .answered),
+          q′ .memory ∙ b .lookupLeaves (h .held) (k .held) channel before ∙ sym (q .memory),
+        )
 
   -- with the list of one rectangle: that rectangle's call
   pub rectangle-alike : (scene t₀ c z : ℕ) (r : Rect) → Overwritten (listedFor f scene t₀ c z r) f g → (before after after′ : List ℕ) (a a′ : Result (ℕ × ℕ × ℕ)) →

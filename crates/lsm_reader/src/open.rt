@@ -1,11 +1,11 @@
 // Opening a file: the header, the walk along the directories, the description, and the strip table once every check has passed.
 use crate::Description;
+use lsm_bytes::U16;
+use lsm_bytes::read_u16;
 use lsm_chain::First;
 use lsm_chain::Walk;
 use lsm_chain::WalkAnswer;
 use lsm_chain::walk_chain;
-use lsm_bytes::U16;
-use lsm_bytes::read_u16;
 use lsm_cz_info::CzAnswer;
 use lsm_cz_info::CzInfo;
 use lsm_cz_info::CzTag;

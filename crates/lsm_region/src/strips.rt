@@ -58,7 +58,13 @@ pub(crate) fn strips_make(table: &[usize], first: usize, n: usize, len: usize, s
 }
 
 // Whether each of the strips holds whole rows, and all of them together the picture's. The rows still to come are counted down.
-pub(crate) fn strips_of_rows(table: &[usize], first: usize, n: usize, row: usize, height: usize) -> bool
+pub(crate) fn strips_of_rows(
+    table: &[usize],
+    first: usize,
+    n: usize,
+    row: usize,
+    height: usize,
+) -> bool
     requires { ⌜ (2 * (first + n) ≤ length (now table)) × (0 < row) ⌝ }
     ensures { λ r. ⌜ r ≡ wholeRowsOf row (now (table .entry)) first n height ⌝ }
 {

@@ -1,0 +1,40 @@
+-- `lsm_c::look_up` meets its contract. Assumes nothing.
+use mathlib.Core.Path.{sym, ap, _∙_}
+use borrow.Author.Needs.{needs}
+use Rattle.lsm_reader.specs.Opening.{describedOf}
+use Rattle.lsm_c.proofs.Calls.{described, no-description}
+use Rattle.lsm_c.proofs.look_up.Statement.{statement}
+use Rattle.lsm_c.proofs.look_up.Tie as tie
+
+read-description-requires : tie.Need-read-description-requires
+read-description-requires c κs = search needs
+
+enum-known-d : tie.Need-enum-known-d
+enum-known-d c = search needs
+
+channel-requires : tie.Need-channel-requires
+channel-requires c κs = search needs
+
+enum-known-r : tie.Need-enum-known-r
+enum-known-r c = search needs
+
+same-length : tie.Need-same-length
+same-length c = search needs
+
+returns : tie.Need-returns
+returns c = described _ _ _ _ _ _ _ (sym (c .before .before .before .before .before .before .before .read-description .ensures) ∙ ap describedOf (c .before .before .before .before .before .d .given .1)) (c .before .before .channel .ensures)
+
+returns-2 : tie.Need-returns-2
+returns-2 c = no-description _ _ _ _ _ (sym (c .before .before .before .read-description .ensures) ∙ ap describedOf (c .before .r .given .1))
+
+pub look-up-spec : {M : Type 1} → statement M
+look-up-spec =
+    tie.close
+    (tie.spec
+    read-description-requires
+    enum-known-d
+    channel-requires
+    enum-known-r
+    same-length
+    returns
+    returns-2)

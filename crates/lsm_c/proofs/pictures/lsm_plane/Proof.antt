@@ -1,0 +1,25 @@
+use Rattle.lsm_c.proofs.Calls.{pictured-by}
+use borrow.Author.Needs.{needs}
+use Rattle.lsm_c.proofs.pictures.lsm_plane.Statement.{statement}
+use Rattle.lsm_c.proofs.pictures.lsm_plane.Tie as tie
+use Rattle.lsm_c.proofs.pictures.lsm_plane.Reads as reads
+
+plane-by-requires : tie.Need-plane-by-requires
+plane-by-requires c κs = search needs
+
+picture-words-requires : tie.Need-picture-words-requires
+picture-words-requires c κs = search needs
+
+array-read-result : tie.Need-array-read-result
+array-read-result c = search needs
+
+same-length : tie.Need-same-length
+same-length c = search needs
+
+returns : tie.Need-returns
+returns c = pictured-by (c .before .before .before .plane-by .ensures) (c .picture-words .ensures)
+
+pub lsm-plane-spec : {M : Type 1} → statement M
+lsm-plane-spec =
+    tie.close
+    (tie.spec plane-by-requires picture-words-requires array-read-result same-length returns)

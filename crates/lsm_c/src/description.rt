@@ -1,0 +1,271 @@
+// A description as 17 words, which a C caller keeps and hands in again: written, and read back.
+use calibration::Calibration;
+use calibration::ZStep;
+use lsm_format::error::Refusal;
+use lsm_format::types::ChannelBlock;
+use lsm_format::types::DType;
+use lsm_format::types::Dims5;
+use lsm_format::types::Endian;
+use lsm_positions::LsmLayout;
+use lsm_reader::Description;
+use lsm_reader::open::DescriptionAnswer;
+use lsm_reader::open::HeaderAnswer;
+use lsm_reader::open::SampleAnswer;
+ghost use mathlib.Core.Path.{_≡_};
+ghost use Rattle.lsm_format.specs.Code.{orderOf, kindOf, blockOf};
+ghost use Rattle.calibration.specs.Calibrated.{stepOf, calibrationOf};
+ghost use Rattle.lsm_reader.specs.Code.{descriptionOf};
+ghost use Rattle.lsm_reader.specs.Opening.{headerOf, sampleOf, describedOf};
+ghost use Rattle.lsm_c.specs.Words.{orderWord, kindWord, floatWord, stepWords, sizeWords, blockWords, descriptionWords};
+ghost use Rattle.lsm_c.specs.Words.{orderBy, kindBy, floatBy, stepBy, sizedBy, sizeBy, blockBy, describedBy};
+ghost use Rattle.lsm_c.specs.Code.{floatAnswerOf, stepAnswerOf, sizeAnswerOf, blockAnswerOf};
+
+fn order_word(e: Endian) -> usize
+    ensures { λ r. ⌜ r ≡ orderWord (orderOf e) ⌝ }
+{
+    match e {
+        Endian::Little => 0,
+        Endian::Big => 1,
+    }
+}
+
+fn kind_word(k: DType) -> usize
+    ensures { λ r. ⌜ r ≡ kindWord (kindOf k) ⌝ }
+{
+    match k {
+        DType::U8 => 0,
+        DType::U16 => 1,
+        DType::I16 => 2,
+        DType::F32 => 3,
+    }
+}
+
+// The bits of an f32. A NaN has no pattern of its own; none is ever in a description that opening gives.
+fn float_word(x: f32) -> usize
+    ensures { λ r. ⌜ r ≡ floatWord x ⌝ }
+{
+    if x != x {
+        return 0x7fc0_0000;
+    }
+    f32::to_bits(x) as usize
+}
+
+// What became of the Z step, and its bits.
+fn step_words(z: ZStep) -> [usize; 2]
+    ensures { λ r. ⌜ r ≡ stepWords (stepOf z) ⌝ }
+{
+    match z {
+        ZStep::Used(um) => [0, float_word(um)],
+        ZStep::Absent => [1, 0],
+        ZStep::Placeholder(um) => [2, float_word(um)],
+        ZStep::TooLarge(um) => [3, float_word(um)],
+    }
+}
+
+fn size_words(s: Calibration) -> [usize; 5]
+    ensures { λ r. ⌜ r ≡ sizeWords (calibrationOf s) ⌝ }
+{
+    match s {
+        Calibration::Uncalibrated => [0, 0, 0, 0, 0],
+        Calibration::Sized { x, y, z } => {
+            let step = step_words(z);
+            [1, float_word(x), float_word(y), step[0], step[1]]
+        }
+    }
+}
+
+fn block_words(b: ChannelBlock) -> [usize; 2]
+    ensures { λ r. ⌜ r ≡ blockWords (blockOf b) ⌝ }
+{
+    match b {
+        ChannelBlock::Absent => [0, 0],
+        ChannelBlock::At(place) => [1, place],
+    }
+}
+
+pub fn description_words(d: Description) -> [usize; 17]
+    ensures { λ r. ⌜ r ≡ descriptionWords (descriptionOf d) ⌝ }
+{
+    let endian = d.endian;
+    let dtype = d.dtype;
+    let dims = d.dims;
+    let layout = d.layout;
+    let calibration = d.calibration;
+    let block = d.channel_colors_offset;
+    let size = size_words(calibration);
+    let block = block_words(block);
+    [
+        order_word(endian),
+        kind_word(dtype),
+        dims.t,
+        dims.c,
+        dims.z,
+        dims.y,
+        dims.x,
+        layout.scenes,
+        layout.pages_per_scene,
+        d.strips_per_channel,
+        size[0],
+        size[1],
+        size[2],
+        size[3],
+        size[4],
+        block[0],
+        block[1],
+    ]
+}
+
+// ---- and back
+
+fn order_of(word: usize) -> HeaderAnswer
+    ensures { λ r. ⌜ headerOf r ≡ orderBy word ⌝ }
+{
+    match word {
+        0 => HeaderAnswer::Order(Endian::Little),
+        1 => HeaderAnswer::Order(Endian::Big),
+        _ => HeaderAnswer::Refused(Refusal::Decode),
+    }
+}
+
+fn kind_of(word: usize) -> SampleAnswer
+    ensures { λ r. ⌜ sampleOf r ≡ kindBy word ⌝ }
+{
+    match word {
+        0 => SampleAnswer::Kind(DType::U8),
+        1 => SampleAnswer::Kind(DType::U16),
+        2 => SampleAnswer::Kind(DType::I16),
+        3 => SampleAnswer::Kind(DType::F32),
+        _ => SampleAnswer::Refused(Refusal::Decode),
+    }
+}
+
+pub enum FloatAnswer {
+    Value(f32),
+    Refused(Refusal),
+}
+
+fn float_of(word: usize) -> FloatAnswer
+    ensures { λ r. ⌜ floatAnswerOf r ≡ floatBy word ⌝ }
+{
+    if 0xffff_ffff < word {
+        return FloatAnswer::Refused(Refusal::Decode);
+    }
+    // without its sign a NaN's pattern is above the infinity's; no float is made of it
+    if 0x7f80_0000 < (word & 0x7fff_ffff) {
+        return FloatAnswer::Refused(Refusal::Decode);
+    }
+    FloatAnswer::Value(f32::from_bits(word as u32))
+}
+
+pub enum StepAnswer {
+    Step(ZStep),
+    Refused(Refusal),
+}
+
+fn step_of(choice: usize, bits: usize) -> StepAnswer
+    ensures { λ r. ⌜ stepAnswerOf r ≡ stepBy choice bits ⌝ }
+{
+    if 3 < choice {
+        return StepAnswer::Refused(Refusal::Decode);
+    }
+    if choice == 1 {
+        return StepAnswer::Step(ZStep::Absent);
+    }
+    match float_of(bits) {
+        FloatAnswer::Value(um) => match choice {
+            0 => StepAnswer::Step(ZStep::Used(um)),
+            2 => StepAnswer::Step(ZStep::Placeholder(um)),
+            _ => StepAnswer::Step(ZStep::TooLarge(um)),
+        },
+        FloatAnswer::Refused(r) => StepAnswer::Refused(r),
+    }
+}
+
+pub enum SizeAnswer {
+    Size(Calibration),
+    Refused(Refusal),
+}
+
+fn sized_of(x: usize, y: usize, choice: usize, bits: usize) -> SizeAnswer
+    ensures { λ r. ⌜ sizeAnswerOf r ≡ sizedBy x y choice bits ⌝ }
+{
+    let x = match float_of(x) {
+        FloatAnswer::Value(x) => x,
+        FloatAnswer::Refused(r) => return SizeAnswer::Refused(r),
+    };
+    let y = match float_of(y) {
+        FloatAnswer::Value(y) => y,
+        FloatAnswer::Refused(r) => return SizeAnswer::Refused(r),
+    };
+    match step_of(choice, bits) {
+        StepAnswer::Step(z) => SizeAnswer::Size(Calibration::Sized { x, y, z }),
+        StepAnswer::Refused(r) => SizeAnswer::Refused(r),
+    }
+}
+
+fn size_of(stated: usize, x: usize, y: usize, choice: usize, bits: usize) -> SizeAnswer
+    ensures { λ r. ⌜ sizeAnswerOf r ≡ sizeBy stated x y choice bits ⌝ }
+{
+    match stated {
+        0 => SizeAnswer::Size(Calibration::Uncalibrated),
+        1 => sized_of(x, y, choice, bits),
+        _ => SizeAnswer::Refused(Refusal::Decode),
+    }
+}
+
+pub enum BlockAnswer {
+    Block(ChannelBlock),
+    Refused(Refusal),
+}
+
+fn block_of(there: usize, place: usize) -> BlockAnswer
+    ensures { λ r. ⌜ blockAnswerOf r ≡ blockBy there place ⌝ }
+{
+    match there {
+        0 => BlockAnswer::Block(ChannelBlock::Absent),
+        1 => BlockAnswer::Block(ChannelBlock::At(place)),
+        _ => BlockAnswer::Refused(Refusal::Decode),
+    }
+}
+
+// The description that 17 words are. Words that are none are refused; words of what is absent are not looked at.
+pub fn read_description(words: &[usize; 17]) -> DescriptionAnswer
+    ensures { λ r. ⌜ describedOf r ≡ describedBy (now (words .entry)) ⌝ }
+{
+    let endian = match order_of(words[0]) {
+        HeaderAnswer::Order(e) => e,
+        HeaderAnswer::Refused(r) => return DescriptionAnswer::Refused(r),
+    };
+    let dtype = match kind_of(words[1]) {
+        SampleAnswer::Kind(k) => k,
+        SampleAnswer::Refused(r) => return DescriptionAnswer::Refused(r),
+    };
+    let calibration = match size_of(words[10], words[11], words[12], words[13], words[14]) {
+        SizeAnswer::Size(s) => s,
+        SizeAnswer::Refused(r) => return DescriptionAnswer::Refused(r),
+    };
+    let block = match block_of(words[15], words[16]) {
+        BlockAnswer::Block(b) => b,
+        BlockAnswer::Refused(r) => return DescriptionAnswer::Refused(r),
+    };
+    let dims = Dims5 {
+        t: words[2],
+        c: words[3],
+        z: words[4],
+        y: words[5],
+        x: words[6],
+    };
+    let layout = LsmLayout {
+        scenes: words[7],
+        pages_per_scene: words[8],
+    };
+    DescriptionAnswer::Described(Description {
+        endian,
+        dtype,
+        dims,
+        layout,
+        strips_per_channel: words[9],
+        calibration,
+        channel_colors_offset: block,
+    })
+}

@@ -1,0 +1,112 @@
+// Pictures through the C interface.
+use crate::description::read_description;
+use lsm_format::error::Refusal;
+use lsm_format::types::PixelRect;
+use lsm_reader::open::DescriptionAnswer;
+use lsm_region::PictureAnswer;
+use lsm_region::plane;
+use lsm_region::region;
+ghost use mathlib.Core.Path.{_≡_};
+ghost use Rattle.lsm_format.specs.Code.{rowOf, rectOf};
+ghost use Rattle.lsm_region.specs.Code.{answerOf, Pictured};
+ghost use Rattle.lsm_c.specs.Calls.{padded, pictureWords, planeBy, regionBy, PicturedBy};
+
+fn picture_refusal(r: Refusal) -> [usize; 5]
+    ensures { λ a. ⌜ a ≡ padded 0 (rowOf r) ⌝ }
+{
+    let row = r.numbers();
+    let n = row.numbers;
+    [n[0], n[1], n[2], n[3], n[4]]
+}
+
+fn picture_words(a: PictureAnswer) -> [usize; 5]
+    ensures { λ r. ⌜ r ≡ pictureWords (answerOf a) ⌝ }
+{
+    match a {
+        PictureAnswer::Read(p) => [0, p.height, p.width, p.bytes, 0],
+        PictureAnswer::Refused(r) => picture_refusal(r),
+    }
+}
+
+// The picture with the description that these words are. No description is refused before anything else.
+fn plane_by(
+    file: &[u8],
+    description: &[usize; 17],
+    table: &[usize],
+    scene: usize,
+    t: usize,
+    c: usize,
+    z: usize,
+    out: &mut [u8],
+) -> PictureAnswer
+    ensures { λ r. ⌜ Pictured (planeBy (now (description .entry)) (now (table .entry)) (now (file .entry)) scene t c z) (now (out .entry)) (now (out .exit)) (answerOf r) ⌝ }
+{
+    match read_description(description) {
+        DescriptionAnswer::Described(d) => plane(file, d, table, scene, t, c, z, out),
+        DescriptionAnswer::Refused(r) => PictureAnswer::Refused(r),
+    }
+}
+
+fn region_by(
+    file: &[u8],
+    description: &[usize; 17],
+    table: &[usize],
+    scene: usize,
+    t: usize,
+    c: usize,
+    z: usize,
+    rect: PixelRect,
+    out: &mut [u8],
+) -> PictureAnswer
+    ensures { λ r. ⌜ Pictured (regionBy (now (description .entry)) (now (table .entry)) (now (file .entry)) scene t c z (rectOf rect)) (now (out .entry)) (now (out .exit)) (answerOf r) ⌝ }
+{
+    match read_description(description) {
+        DescriptionAnswer::Described(d) => region(file, d, table, scene, t, c, z, rect, out),
+        DescriptionAnswer::Refused(r) => PictureAnswer::Refused(r),
+    }
+}
+
+// A whole picture. Its samples are written to `out`, little-endian, row by row.
+#[no_mangle]
+pub extern "C" fn lsm_plane(
+    file: &[u8],
+    description: &[usize; 17],
+    table: &[usize],
+    scene: usize,
+    t: usize,
+    c: usize,
+    z: usize,
+    out: &mut [u8],
+    answer: &mut [usize; 5],
+) -> usize
+    ensures { λ r. ⌜ PicturedBy (planeBy (now (description .entry)) (now (table .entry)) (now (file .entry)) scene t c z) (now (out .entry)) (now (out .exit)) (now (answer .exit)) r ⌝ }
+{
+    let words = picture_words(plane_by(file, description, table, scene, t, c, z, out));
+    *answer = words;
+    words[0]
+}
+
+// A rectangle of a picture: column x, row y, w columns and h rows.
+#[no_mangle]
+pub extern "C" fn lsm_region(
+    file: &[u8],
+    description: &[usize; 17],
+    table: &[usize],
+    scene: usize,
+    t: usize,
+    c: usize,
+    z: usize,
+    x: usize,
+    y: usize,
+    w: usize,
+    h: usize,
+    out: &mut [u8],
+    answer: &mut [usize; 5],
+) -> usize
+    ensures { λ r. ⌜ PicturedBy (regionBy (now (description .entry)) (now (table .entry)) (now (file .entry)) scene t c z (record { x = x; y = y; w = w; h = h })) (now (out .entry)) (now (out .exit)) (now (answer .exit)) r ⌝ }
+{
+    let rect = PixelRect { x, y, w, h };
+    let words = picture_words(region_by(file, description, table, scene, t, c, z, rect, out));
+    *answer = words;
+    words[0]
+}
