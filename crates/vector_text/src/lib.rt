@@ -182,7 +182,81 @@ fn tail_at(text: &[u8], at: usize, bytes: &mut [u8]) -> Field
     Field { count: 0, next: at }
 }
 
-// A line: its letter, the first `count` of the numbers, and how many bytes it has. `count` is 0 where it hasn't the form.
+// Reads numbers with a space before each: how many there were, and where they end. None, and the text's end, where the place is
+// past it.
+pub fn numbers_at(text: &[u8], from: usize, numbers: &mut [usize]) -> Field
+    ensures { λ r. ⌜ Counts (r .count) (now (numbers .exit)) ⌝ }
+    ensures { λ r. ⌜ r .next ≤ length (now (text .entry)) ⌝ }
+    ensures { λ r. ⌜ (from ≤ length (now (text .entry)) → from ≤ r .next) ⌝ }
+{
+    if text.len() < from {
+        return Field {
+            count: 0,
+            next: text.len(),
+        };
+    }
+    let mut at = from;
+    let mut n = 0;
+    while n < numbers.len() {
+        if !holds(text, at, b' ') {
+            return Field { count: n, next: at };
+        }
+        let number = number_at(text, at + 1);
+        if number.next == at + 1 {
+            return Field { count: n, next: at };
+        }
+        numbers[n] = number.value;
+        n += 1;
+        at = number.next;
+    }
+    Field { count: n, next: at }
+}
+
+// A line: its letter, how many numbers and bytes it has, and where the next begins. `count` is 0 where it hasn't the form.
+pub struct Line {
+    pub kind: u8,
+    pub count: usize,
+    pub len: usize,
+    pub next: usize,
+}
+
+// The line at a place, its numbers and bytes in lent memory. One that hasn't the form, or has no room there, ends the list, and so
+// does a place past the end.
+pub fn line_at(text: &[u8], at: usize, numbers: &mut [usize], bytes: &mut [u8]) -> Line
+    ensures { λ r. ⌜ Counts (r .count) (now (numbers .exit)) ⌝ }
+    ensures { λ r. ⌜ Counts (r .len) (now (bytes .exit)) ⌝ }
+    ensures { λ r. ⌜ r .next ≤ length (now (text .entry)) ⌝ }
+    ensures { λ r. ⌜ (at < length (now (text .entry)) → at < r .next) ⌝ }
+    ensures { λ r. ⌜ (length (now (text .entry)) ≤ at → r .count ≡ 0) ⌝ }
+{
+    if text.len() <= at {
+        return Line {
+            kind: 0,
+            count: 0,
+            len: 0,
+            next: text.len(),
+        };
+    }
+    let kind = text[at];
+    let n = numbers_at(text, at + 1, numbers);
+    let f = tail_at(text, n.next, bytes);
+    if !holds(text, f.next, b'\n') {
+        return Line {
+            kind,
+            count: 0,
+            len: 0,
+            next: text.len(),
+        };
+    }
+    Line {
+        kind,
+        count: n.count,
+        len: f.count,
+        next: f.next + 1,
+    }
+}
+
+// A line of twenty numbers at most: the first `count` of `numbers` are its own.
 pub struct Row {
     pub kind: u8,
     pub numbers: [usize; 20],
@@ -191,53 +265,19 @@ pub struct Row {
     pub next: usize,
 }
 
-// The line at a place, its bytes in lent memory. One that hasn't the form ends the list, and so does a place past the end.
 pub fn row_at(text: &[u8], at: usize, bytes: &mut [u8]) -> Row
     ensures { λ r. ⌜ Counts (r .len) (now (bytes .exit)) ⌝ }
     ensures { λ r. ⌜ (r .next ≤ length (now (text .entry))) × (r .count ≤ 20) ⌝ }
     ensures { λ r. ⌜ (at < length (now (text .entry)) → at < r .next) ⌝ }
     ensures { λ r. ⌜ (length (now (text .entry)) ≤ at → r .count ≡ 0) ⌝ }
 {
-    if text.len() <= at {
-        return Row {
-            kind: 0,
-            numbers: [0; 20],
-            count: 0,
-            len: 0,
-            next: text.len(),
-        };
-    }
-    let kind = text[at];
     let mut numbers = [0usize; 20];
-    let mut count: usize = 0;
-    let mut place = at + 1;
-    while count < 20 {
-        if !holds(text, place, b' ') {
-            break;
-        }
-        let n = number_at(text, place + 1);
-        if n.next == place + 1 {
-            break;
-        }
-        numbers[count] = n.value;
-        count += 1;
-        place = n.next;
-    }
-    let f = tail_at(text, place, bytes);
-    if !holds(text, f.next, b'\n') {
-        return Row {
-            kind,
-            numbers,
-            count: 0,
-            len: 0,
-            next: text.len(),
-        };
-    }
+    let line = line_at(text, at, &mut numbers, bytes);
     Row {
-        kind,
+        kind: line.kind,
         numbers,
-        count,
-        len: f.count,
-        next: f.next + 1,
+        count: line.count,
+        len: line.len,
+        next: line.next,
     }
 }

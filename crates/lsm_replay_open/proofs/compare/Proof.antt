@@ -1,0 +1,64 @@
+-- `lsm_replay_open::compare` meets its contract: a line takes a byte at least. Assumes nothing.
+use Prim.Native.Nat.{_-_, _≤_}
+use borrow.Author.Needs.{needs}
+use lib.ListN.{length}
+use Rattle.lsm_replay_open.proofs.compare.Statement.{statement}
+use Rattle.lsm_replay_open.proofs.compare.Tie as tie
+
+abbrev Inv-loop : tie.InvT-loop
+Inv-loop text openings₀ lookups₀ at₀ openings lookups at =
+    (at ≤ length text) × (openings .cases ≤ at) × (openings .differ ≤ openings .cases) × (lookups .cases ≤ at) × (lookups .differ ≤ lookups .cases)
+
+abbrev μ-loop : tie.MeasureT-loop
+μ-loop text openings₀ lookups₀ at₀ openings lookups at = length text - at
+
+none-requires : tie.Need-none-requires Inv-loop μ-loop
+none-requires c κs = search needs
+
+none-requires-2 : tie.Need-none-requires-2 Inv-loop μ-loop
+none-requires-2 c κs = search needs
+
+loop-holds : tie.Need-loop-holds Inv-loop μ-loop
+loop-holds c = search needs
+
+told-at-requires : tie.Need-told-at-requires Inv-loop μ-loop
+told-at-requires c κs = search needs
+
+counted-requires : tie.Need-counted-requires Inv-loop μ-loop
+counted-requires c κs = search needs
+
+loop-less : tie.Need-loop-less Inv-loop μ-loop
+loop-less c = search needs
+
+loop-again : tie.Need-loop-again Inv-loop μ-loop
+loop-again c = search needs
+
+counted-requires-2 : tie.Need-counted-requires-2 Inv-loop μ-loop
+counted-requires-2 c κs = search needs
+
+loop-less-2 : tie.Need-loop-less-2 Inv-loop μ-loop
+loop-less-2 c = search needs
+
+loop-again-2 : tie.Need-loop-again-2 Inv-loop μ-loop
+loop-again-2 c = search needs
+
+returns : tie.Need-returns Inv-loop μ-loop
+returns c = search needs
+
+pub compare-spec : {M : Type 1} → statement M
+compare-spec =
+    tie.close
+    (tie.spec
+    Inv-loop
+    μ-loop
+    none-requires
+    none-requires-2
+    loop-holds
+    told-at-requires
+    counted-requires
+    loop-less
+    loop-again
+    counted-requires-2
+    loop-less-2
+    loop-again-2
+    returns)

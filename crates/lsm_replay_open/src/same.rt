@@ -1,0 +1,79 @@
+// What is compared: words with words, words with bytes, and lent memory with what was in it before.
+ghost use mathlib.Core.Path.{_≡_};
+ghost use mathlib.Core.Bool.{true};
+ghost use Prim.Native.Nat.{ℕ, _<_};
+ghost use lib.ListN.{length, getD};
+
+// What lent words hold before a call.
+pub const WORD: usize = 0xa5a5_a5a5_a5a5_a5a5;
+
+// What lent bytes hold before a call. It is in no UTF-8 text by itself.
+pub const BYTE: u8 = 0xa5;
+
+pub fn same_words(a: &[usize], b: &[usize]) -> bool
+    ensures { λ r. ⌜ (r ≡ true → length (now (a .entry)) ≡ length (now (b .entry))) ⌝ }
+    ensures { λ r. ⌜ (r ≡ true → (k : ℕ) → k < length (now (a .entry)) → getD (now (a .entry)) k 0 ≡ getD (now (b .entry)) k 0) ⌝ }
+{
+    if a.len() != b.len() {
+        return false;
+    }
+    let mut i = 0;
+    while i < a.len() {
+        if a[i] != b[i] {
+            return false;
+        }
+        i += 1;
+    }
+    true
+}
+
+fn wide(b: u8) -> usize
+    ensures { λ r. ⌜ r ≡ b ⌝ }
+{
+    b as usize
+}
+
+pub fn same_bytes(a: &[usize], b: &[u8]) -> bool
+    ensures { λ r. ⌜ (r ≡ true → length (now (a .entry)) ≡ length (now (b .entry))) ⌝ }
+    ensures { λ r. ⌜ (r ≡ true → (k : ℕ) → k < length (now (a .entry)) → getD (now (a .entry)) k 0 ≡ getD (now (b .entry)) k 0) ⌝ }
+{
+    if a.len() != b.len() {
+        return false;
+    }
+    let mut i = 0;
+    while i < a.len() {
+        if a[i] != wide(b[i]) {
+            return false;
+        }
+        i += 1;
+    }
+    true
+}
+
+// Whether every word is as it was.
+pub fn kept_words(a: &[usize]) -> bool
+    ensures { λ r. ⌜ (r ≡ true → (k : ℕ) → k < length (now (a .entry)) → getD (now (a .entry)) k 0 ≡ 11936128518282651045) ⌝ }
+{
+    let mut i = 0;
+    while i < a.len() {
+        if a[i] != WORD {
+            return false;
+        }
+        i += 1;
+    }
+    true
+}
+
+// Whether every byte is as it was.
+pub fn kept_bytes(a: &[u8]) -> bool
+    ensures { λ r. ⌜ (r ≡ true → (k : ℕ) → k < length (now (a .entry)) → getD (now (a .entry)) k 0 ≡ 165) ⌝ }
+{
+    let mut i = 0;
+    while i < a.len() {
+        if a[i] != BYTE {
+            return false;
+        }
+        i += 1;
+    }
+    true
+}
