@@ -268,4 +268,27 @@ impl Opened {
         let [x, y, w, h] = rect;
         kept(|| self.reader.region(scene, t, c, z, PixelRect { x, y, w, h })).map(picture)
     }
+
+    // How long a picture takes, or a rectangle of it.
+    pub fn timed(&self, at: [usize; 4], rect: Option<[usize; 4]>) -> Duration {
+        let [scene, t, c, z] = at;
+        let start = Instant::now();
+        let answer = match rect {
+            None => self.reader.plane(scene, t, c, z),
+            Some([x, y, w, h]) => self.reader.region(scene, t, c, z, PixelRect { x, y, w, h }),
+        };
+        let took = start.elapsed();
+        std::hint::black_box(answer.expect("a picture"));
+        took
+    }
+}
+
+// How long opening takes; the file is in memory.
+pub fn timed_open(memory: &mut Memory, bytes: &[u8]) -> Duration {
+    memory.put(bytes);
+    let start = Instant::now();
+    let answer = LsmReader::open(&memory.path);
+    let took = start.elapsed();
+    std::hint::black_box(answer.expect("an opened file"));
+    took
 }

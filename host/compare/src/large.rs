@@ -1,11 +1,11 @@
 // A few large files at the limits: the chain's length, the number of strips, pictures above 4 GiB, circles.
-struct File {
-    bytes: Vec<u8>,
+pub struct File {
+    pub bytes: Vec<u8>,
     big: bool,
 }
 
 impl File {
-    fn new(big: bool, len: usize) -> File {
+    pub fn new(big: bool, len: usize) -> File {
         let mut f = File { bytes: vec![0; len], big };
         f.bytes[..2].copy_from_slice(if big { b"MM" } else { b"II" });
         f.put(2, 42, 2);
@@ -13,7 +13,7 @@ impl File {
         f
     }
 
-    fn put(&mut self, at: usize, n: u64, size: usize) {
+    pub fn put(&mut self, at: usize, n: u64, size: usize) {
         let le = n.to_le_bytes();
         for (i, &b) in le[..size].iter().enumerate() {
             self.bytes[if self.big { at + size - 1 - i } else { at + i }] = b;
@@ -21,7 +21,7 @@ impl File {
     }
 
     // An entry: tag, type, count, value. A value in line stands at the field's start.
-    fn entry(&mut self, at: usize, tag: u64, ty: u64, count: u64, value: u64) {
+    pub fn entry(&mut self, at: usize, tag: u64, ty: u64, count: u64, value: u64) {
         self.put(at, tag, 2);
         self.put(at + 2, ty, 2);
         self.put(at + 4, count, 4);
@@ -29,7 +29,7 @@ impl File {
         self.put(at + 8, value, size);
     }
 
-    fn cz(&mut self, at: usize, dims: [u64; 5]) {
+    pub fn cz(&mut self, at: usize, dims: [u64; 5]) {
         self.put(at, 0x0400_494c, 4);
         self.put(at + 4, 28, 4);
         for (i, d) in dims.into_iter().enumerate() {

@@ -1,4 +1,5 @@
 // Compares a port of the LSM reader with the original. README.md one folder up says how it is run.
+mod bench;
 mod check;
 mod large;
 mod lent;
@@ -30,6 +31,7 @@ struct Options {
     pictures: bool,
     keep: u64,
     fault: usize,
+    bench: bool,
 }
 
 const USAGE: &str = "options:
@@ -44,6 +46,7 @@ const USAGE: &str = "options:
   --no-pictures  without planes and regions
   --keep N       go on until N differences were shown (1)
   --fault N      a port with a fault, 1 to 22, to see that it is noticed
+  --bench        times of both instead of a comparison
   --case N       only this case: its bytes and both answers
   --file PATH    only this file
   --record DIR --count N   write the list of recorded answers";
@@ -65,6 +68,7 @@ fn options() -> Options {
         pictures: true,
         keep: 1,
         fault: 0,
+        bench: false,
     };
     let mut args = std::env::args().skip(1);
     while let Some(a) = args.next() {
@@ -92,6 +96,7 @@ fn options() -> Options {
             "--no-pictures" => o.pictures = false,
             "--fault" => o.fault = number(value()) as usize,
             "--keep" => o.keep = number(value()),
+            "--bench" => o.bench = true,
             _ => usage(),
         }
     }
@@ -218,6 +223,10 @@ fn main() {
     std::panic::set_hook(Box::new(|p| eprintln!("{p}")));
     if let Some(folder) = &o.record {
         record::write(folder, o.seed, o.count);
+        return;
+    }
+    if o.bench {
+        bench::run(&mut *port::port(o.fault));
         return;
     }
     let mut both = Both::new(port::port(o.fault));
