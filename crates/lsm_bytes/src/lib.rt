@@ -2,8 +2,9 @@
 use lsm_format::types::Endian;
 ghost use mathlib.Core.Path.{_≡_};
 ghost use mathlib.Core.List.{[], _∷_};
+ghost use Prim.Native.Nat.{ℕ, _<_};
 ghost use Rattle.lsm_format.specs.Code.{orderOf};
-ghost use Rattle.lsm_format.specs.Numbers.{valueOf, u8At, u16At, u32At, i32At, f64BitsAt, signed32};
+ghost use Rattle.lsm_format.specs.Numbers.{little, big, valueOf, u8At, u16At, u32At, i32At, f64BitsAt, signed32};
 ghost use Rattle.lsm_bytes.specs.Code.{u8Of, u16Of, u32Of, i32Of, f64BitsOf};
 
 pub enum U8 {
@@ -32,23 +33,34 @@ pub enum F64Bits {
     Parse,
 }
 
+// Every number is made little-endian first, and its bytes are turned around where the order is big: so a compiler can load it at once.
+
 fn pair(e: Endian, a: u8, b: u8) -> u16
     ensures { λ r. ⌜ r ≡ valueOf (orderOf e) (a ∷ b ∷ []) ⌝ }
 {
+    let n = (a as u16) + 256 * (b as u16);
     match e {
-        Endian::Little => (a as u16) + 256 * (b as u16),
-        Endian::Big => (b as u16) + 256 * (a as u16),
+        Endian::Little => n,
+        Endian::Big => n / 256 + 256 * (n % 256),
     }
+}
+
+// The number of the same four bytes in the other order.
+fn swapped(n: u32) -> u32
+    ensures { λ r. ⌜ ((a b c d : ℕ) → a < 256 → b < 256 → c < 256 → d < 256 → n ≡ valueOf little (a ∷ b ∷ c ∷ d ∷ []) → r ≡ valueOf big (a ∷ b ∷ c ∷ d ∷ [])) ⌝ }
+{
+    let low = n % 65_536;
+    let high = n / 65_536;
+    65_536 * (256 * (low % 256) + low / 256) + (256 * (high % 256) + high / 256)
 }
 
 fn quad(e: Endian, a: u8, b: u8, c: u8, d: u8) -> u32
     ensures { λ r. ⌜ r ≡ valueOf (orderOf e) (a ∷ b ∷ c ∷ d ∷ []) ⌝ }
 {
-    let first = pair(e, a, b) as u32;
-    let second = pair(e, c, d) as u32;
+    let n = (a as u32) + 256 * (b as u32) + 65_536 * (c as u32) + 16_777_216 * (d as u32);
     match e {
-        Endian::Little => first + 65_536 * second,
-        Endian::Big => second + 65_536 * first,
+        Endian::Little => n,
+        Endian::Big => swapped(n),
     }
 }
 

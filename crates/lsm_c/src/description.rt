@@ -1,21 +1,20 @@
 // A description as 17 words, which a C caller keeps and hands in again: written, and read back.
 use calibration::Calibration;
 use calibration::ZStep;
+use lsm_description::Description;
+use lsm_description::DescriptionAnswer;
+use lsm_description::HeaderAnswer;
+use lsm_description::SampleAnswer;
 use lsm_format::error::Refusal;
 use lsm_format::types::ChannelBlock;
 use lsm_format::types::DType;
 use lsm_format::types::Dims5;
 use lsm_format::types::Endian;
 use lsm_positions::LsmLayout;
-use lsm_reader::Description;
-use lsm_reader::open::DescriptionAnswer;
-use lsm_reader::open::HeaderAnswer;
-use lsm_reader::open::SampleAnswer;
 ghost use mathlib.Core.Path.{_≡_};
 ghost use Rattle.lsm_format.specs.Code.{orderOf, kindOf, blockOf};
 ghost use Rattle.calibration.specs.Calibrated.{stepOf, calibrationOf};
-ghost use Rattle.lsm_reader.specs.Code.{descriptionOf};
-ghost use Rattle.lsm_reader.specs.Opening.{headerOf, sampleOf, describedOf};
+ghost use Rattle.lsm_description.specs.Code.{descriptionOf, headerOf, sampleOf, describedOf};
 ghost use Rattle.lsm_c.specs.Words.{orderWord, kindWord, floatWord, stepWords, sizeWords, blockWords, descriptionWords};
 ghost use Rattle.lsm_c.specs.Words.{orderBy, kindBy, floatBy, stepBy, sizedBy, sizeBy, blockBy, describedBy};
 ghost use Rattle.lsm_c.specs.Code.{floatAnswerOf, stepAnswerOf, sizeAnswerOf, blockAnswerOf};

@@ -1,8 +1,8 @@
 // Pictures through the C interface.
 use crate::description::read_description;
+use lsm_description::DescriptionAnswer;
 use lsm_format::error::Refusal;
 use lsm_format::types::PixelRect;
-use lsm_reader::open::DescriptionAnswer;
 use lsm_region::PictureAnswer;
 use lsm_region::plane;
 use lsm_region::region;

@@ -1,24 +1,13 @@
--- What the directory's types mean in the definitions' terms. A strip array is kept by its place, and means the values there.
-use Prim.Native.Nat.{ℕ}
+-- What the directory's types mean in the definitions' terms.
+use Prim.Native.Nat.{ℕ, _^_, _<_}
 use mathlib.Core.Option.{Option, none, some}
 use mathlib.Core.List.{List}
-use Rattle.lsm_format.specs.Answer.{Result, accepted, refused}
+use Rattle.lsm_format.specs.Answer.{Result, accepted, refused, parse}
 use Rattle.lsm_format.specs.Code.{rowOf}
 use Rattle.lsm_format.specs.Numbers.{Order}
 use Rattle.lsm_format.specs.Directory as Rule
-use Rattle.lsm_format.specs.Directory.{newSubfileType, imageWidth, imageLength, bitsPerSample, compression, samplesPerPixel, planarConfiguration, sampleFormat, field, stripOffsets, stripByteCounts, czLsmInfo, other}
-use Rattle.lsm_directory.specs.Values.{values}
-use Rattle.lsm_directory.specs.declared.Width.{Width}
-use Rattle.lsm_directory.specs.declared.Width.the-variants.{One, Two, Four}
-use Rattle.lsm_directory.specs.declared.Integer.{Integer}
-use Rattle.lsm_directory.specs.declared.Integer.the-variants.{Of, Nothing}
-use Rattle.lsm_directory.specs.declared.Place.{Place}
-use Rattle.lsm_directory.specs.declared.Place.the-variants.{At, Refused as RefusedPlace}
-use Rattle.lsm_directory.specs.declared.Scalar.{Scalar}
-use Rattle.lsm_directory.specs.declared.Scalar.the-variants.{Value, Refused as RefusedScalar}
-use Rattle.lsm_directory.specs.declared.StripArray.{StripArray}
-use Rattle.lsm_directory.specs.declared.ArrayAnswer.{ArrayAnswer}
-use Rattle.lsm_directory.specs.declared.ArrayAnswer.the-variants.{Array, Refused as RefusedArray}
+use Rattle.lsm_format.specs.Directory.{newSubfileType, imageWidth, imageLength, bitsPerSample, compression, samplesPerPixel, planarConfiguration, sampleFormat, field, stripOffsets, stripByteCounts, czLsmInfo, other, put, putOffsets, putCounts, putCz}
+use Rattle.lsm_values.specs.Code.{valuesOf}
 use Rattle.lsm_directory.specs.declared.CzEntry.{CzEntry}
 use Rattle.lsm_directory.specs.declared.CzEntry.the-variants.{Absent, Block}
 use Rattle.lsm_directory.specs.declared.Directory.{Directory}
@@ -26,32 +15,14 @@ use Rattle.lsm_directory.specs.declared.Field.{Field}
 use Rattle.lsm_directory.specs.declared.Field.the-variants.{NewSubfileType, ImageWidth, ImageLength, BitsPerSample, Compression, SamplesPerPixel, PlanarConfiguration, SampleFormat}
 use Rattle.lsm_directory.specs.declared.Tag.{Tag}
 use Rattle.lsm_directory.specs.declared.Tag.the-variants.{Field as OfField, StripOffsets, StripByteCounts, CzLsmInfo, Other}
-use Rattle.lsm_directory.specs.declared.Step.{Step}
-use Rattle.lsm_directory.specs.declared.Step.the-variants.{Next, Refused as RefusedStep}
-
-abbrev pub bytesOf : Width → ℕ
-bytesOf One = 1
-bytesOf Two = 2
-bytesOf Four = 4
-
-abbrev pub integerOf : Integer → Option ℕ
-integerOf (Of w) = some (bytesOf w)
-integerOf Nothing = none
-
-abbrev pub placeOf : Place → Result ℕ
-placeOf (At p) = accepted p
-placeOf (RefusedPlace r) = refused (rowOf r)
-
-abbrev pub scalarOf : Scalar → Result ℕ
-scalarOf (Value n) = accepted n
-scalarOf (RefusedScalar r) = refused (rowOf r)
-
-abbrev pub valuesOf : Order → List ℕ → StripArray → List ℕ
-valuesOf o f a = values (a .count) (bytesOf (a .width)) o f (a .place)
-
-abbrev pub arrayOf : Order → List ℕ → ArrayAnswer → Result (List ℕ)
-arrayOf o f (Array a) = accepted (valuesOf o f a)
-arrayOf o f (RefusedArray r) = refused (rowOf r)
+use Rattle.lsm_directory.specs.declared.Value.{Value}
+use Rattle.lsm_directory.specs.declared.Value.the-variants.{Reduced, Width, Height, Bits, Compression as CompressionValue, Samples, Planar, SampleFormat as FormatValue, Offsets, Counts, CzBlock, Nothing}
+use Rattle.lsm_directory.specs.declared.EntryAnswer.{EntryAnswer}
+use Rattle.lsm_directory.specs.declared.EntryAnswer.the-variants.{Value as Stated, Refused}
+use Rattle.lsm_directory.specs.declared.Ends.{Ends}
+use Rattle.lsm_directory.specs.declared.Ends.the-variants.{At, Parse}
+use Rattle.lsm_directory.specs.declared.First.{First}
+use Rattle.lsm_directory.specs.declared.First.the-variants.{Absent as NoPage, Page}
 
 abbrev pub czOf : CzEntry → Option (ℕ × ℕ)
 czOf Absent = none
@@ -73,9 +44,7 @@ directoryOf o f d =
       cz = czOf (d .cz);
     }
 
-abbrev pub stepOf : Order → List ℕ → Step → Result Rule.Directory
-stepOf o f (Next d) = accepted (directoryOf o f d)
-stepOf o f (RefusedStep r) = refused (rowOf r)
+-- ---- tags
 
 abbrev pub fieldMeant : Field → Rule.Field
 fieldMeant NewSubfileType = newSubfileType
@@ -93,3 +62,38 @@ tagMeant StripOffsets = stripOffsets
 tagMeant StripByteCounts = stripByteCounts
 tagMeant CzLsmInfo = czLsmInfo
 tagMeant Other = other
+
+-- ---- entries
+
+-- a directory with what an entry states
+abbrev pub putStated : Order → List ℕ → Value → Rule.Directory → Rule.Directory
+putStated o f (Reduced b) d = record { reduced = b; width = d .width; height = d .height; samples = d .samples; bits = d .bits; format = d .format; planar = d .planar; compression = d .compression; offsets = d .offsets; counts = d .counts; cz = d .cz }
+putStated o f (Width n) d = put imageWidth n d
+putStated o f (Height n) d = put imageLength n d
+putStated o f (Bits n) d = put bitsPerSample n d
+putStated o f (CompressionValue n) d = put compression n d
+putStated o f (Samples n) d = put samplesPerPixel n d
+putStated o f (Planar b) d = record { reduced = d .reduced; width = d .width; height = d .height; samples = d .samples; bits = d .bits; format = d .format; planar = b; compression = d .compression; offsets = d .offsets; counts = d .counts; cz = d .cz }
+putStated o f (FormatValue n) d = put sampleFormat n d
+putStated o f (Offsets a) d = putOffsets (valuesOf o f a) d
+putStated o f (Counts a) d = putCounts (valuesOf o f a) d
+putStated o f (CzBlock offset declared) d = putCz offset declared d
+putStated o f Nothing d = d
+
+abbrev pub stepOf : Order → List ℕ → EntryAnswer → Rule.Directory → Result Rule.Directory
+stepOf o f (Stated v) d = accepted (putStated o f v d)
+stepOf o f (Refused r) d = refused (rowOf r)
+
+-- ---- directories
+
+abbrev pub endsOf : Ends → Result (ℕ × ℕ)
+endsOf (At n next) = accepted (n, next)
+endsOf Parse = refused parse
+
+abbrev pub SmallEnds : Ends → Type 0
+SmallEnds (At n next) = (n < 2 ^ 16) × (next < 2 ^ 32)
+SmallEnds Parse = Unit {0}
+
+abbrev pub firstMeant : Order → List ℕ → First → Option Rule.Directory
+firstMeant o f NoPage = none
+firstMeant o f (Page d) = some (directoryOf o f d)

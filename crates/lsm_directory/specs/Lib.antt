@@ -1,2 +1,2 @@
-pub mod Values
+pub mod Pages
 pub mod Code

@@ -1,240 +1,74 @@
-// One image file directory: its entries, their scalars and strip arrays.
-use lsm_bytes::U8;
+// One image file directory: its entries, what they state, and what pages agree on.
 use lsm_bytes::U16;
 use lsm_bytes::U32;
-use lsm_bytes::read_u8;
 use lsm_bytes::read_u16;
 use lsm_bytes::read_u32;
+use lsm_format::error::Check;
 use lsm_format::error::Refusal;
 use lsm_format::types::Endian;
+use lsm_values::ArrayAnswer;
+use lsm_values::Scalar;
+use lsm_values::StripArray;
+use lsm_values::Width;
+use lsm_values::read_array;
+use lsm_values::read_scalar;
+use lsm_values::tiff_type_size;
 ghost use mathlib.Core.Path.{_≡_};
-ghost use mathlib.Core.Bool.{true};
 ghost use mathlib.Core.List.{List};
-ghost use Prim.Native.Nat.{ℕ, _≤_, _<_};
-ghost use lib.ListN.{getD};
-ghost use Rattle.lsm_format.specs.Code.{orderOf};
-ghost use Rattle.lsm_format.specs.Numbers.{Order, numberAt};
-ghost use Rattle.lsm_format.specs.Directory.{typeSize, integerSize, valuePlace, scalar, array, tagOf, isReduced, isShort, put as putValue, putField, czLsmInfo, entryBy, entry};
-ghost use Rattle.lsm_bytes.specs.Code.{u32Of};
-ghost use Rattle.lsm_directory.specs.Values.{arrayAt};
-ghost use Rattle.lsm_directory.specs.Code.{bytesOf, valuesOf, integerOf, placeOf, scalarOf, arrayOf, tagMeant, fieldMeant, directoryOf, stepOf};
-
-// The bytes of a number.
-pub enum Width {
-    One,
-    Two,
-    Four,
-}
-
-// How a TIFF type is read as a number, if it is.
-pub enum Integer {
-    Of(Width),
-    Nothing,
-}
-
-// The bytes of a TIFF type; 0 for a code that is none.
-pub fn tiff_type_size(ty: u16) -> usize
-    ensures { λ r. ⌜ r ≡ typeSize ty ⌝ }
-{
-    match ty {
-        1 | 2 | 6 | 7 => 1,
-        3 | 8 => 2,
-        4 | 9 | 11 => 4,
-        5 | 10 | 12 => 8,
-        _ => 0,
-    }
-}
-
-// A type's bytes as a number.
-pub fn integer_width(ty: u16) -> Integer
-    ensures { λ r. ⌜ integerOf r ≡ integerSize ty ⌝ }
-{
-    match ty {
-        1 | 6 | 7 => Integer::Of(Width::One),
-        3 | 8 => Integer::Of(Width::Two),
-        4 | 9 | 11 => Integer::Of(Width::Four),
-        _ => Integer::Nothing,
-    }
-}
-
-// The number of so many bytes at a place.
-pub fn read_number(buf: &[u8], off: usize, width: Width, e: Endian) -> U32
-    ensures { λ r. ⌜ u32Of r ≡ numberAt (bytesOf width) (orderOf e) (now (buf .entry)) off ⌝ }
-{
-    match width {
-        Width::One => match read_u8(buf, off) {
-            U8::Value(n) => U32::Value(n as u32),
-            U8::Parse => U32::Parse,
-        },
-        Width::Two => match read_u16(buf, off, e) {
-            U16::Value(n) => U32::Value(n as u32),
-            U16::Parse => U32::Parse,
-        },
-        Width::Four => read_u32(buf, off, e),
-    }
-}
-
-pub enum Place {
-    At(usize),
-    Refused(Refusal),
-}
-
-// Where an entry's values stand: in the entry where they fit into four bytes, otherwise at the offset that it holds.
-fn value_place(buf: &[u8], size: usize, count: u32, off: usize, e: Endian) -> Place
-    requires { ⌜ size ≤ 8 ⌝ }
-    ensures { λ r. ⌜ placeOf r ≡ valuePlace (orderOf e) (now (buf .entry)) size count off ⌝ }
-{
-    if size * (count as usize) <= 4 {
-        return Place::At(off);
-    }
-    match read_u32(buf, off, e) {
-        U32::Value(p) => Place::At(p as usize),
-        U32::Parse => Place::Refused(Refusal::Parse),
-    }
-}
-
-pub enum Scalar {
-    Value(u32),
-    Refused(Refusal),
-}
-
-// The first value of an entry.
-pub fn read_scalar(buf: &[u8], ty: u16, count: u32, off: usize, e: Endian) -> Scalar
-    ensures { λ r. ⌜ scalarOf r ≡ scalar (orderOf e) (now (buf .entry)) ty count off ⌝ }
-{
-    let size = tiff_type_size(ty);
-    if size == 0 {
-        return Scalar::Refused(Refusal::Decode);
-    }
-    if count == 0 {
-        return Scalar::Refused(Refusal::Decode);
-    }
-    match value_place(buf, size, count, off, e) {
-        Place::At(place) => match integer_width(ty) {
-            Integer::Of(width) => match read_number(buf, place, width, e) {
-                U32::Value(n) => Scalar::Value(n),
-                U32::Parse => Scalar::Refused(Refusal::Parse),
-            },
-            Integer::Nothing => Scalar::Refused(Refusal::Decode),
-        },
-        Place::Refused(r) => Scalar::Refused(r),
-    }
-}
-
-// A strip array in the file: so many numbers from a place on.
-pub struct StripArray {
-    pub place: usize,
-    pub width: Width,
-    pub count: usize,
-}
-
-pub enum ArrayAnswer {
-    Array(StripArray),
-    Refused(Refusal),
-}
-
-// The most strips of a page.
-const MAX_STRIP_COUNT: u32 = 100_000;
-
-fn width_bytes(width: Width) -> usize
-    ensures { λ r. ⌜ (r ≡ bytesOf width) × (r ≤ 4) × (0 < r) ⌝ }
-{
-    match width {
-        Width::One => 1,
-        Width::Two => 2,
-        Width::Four => 4,
-    }
-}
-
-// The strip array at a place. Its values are not read one by one: all of them are in the file where the last byte is.
-fn array_at(buf: &[u8], ty: u16, count: u32, place: usize, e: Endian) -> ArrayAnswer
-    ensures { λ r. ⌜ arrayOf (orderOf e) (now (buf .entry)) r ≡ arrayAt (orderOf e) (now (buf .entry)) ty count place ⌝ }
-{
-    if MAX_STRIP_COUNT < count {
-        return ArrayAnswer::Refused(Refusal::Decode);
-    }
-    if count == 0 {
-        return ArrayAnswer::Array(StripArray {
-            place: 0,
-            width: Width::One,
-            count: 0,
-        });
-    }
-    let Integer::Of(width) = integer_width(ty) else {
-        return ArrayAnswer::Refused(Refusal::Decode);
-    };
-    if buf.len() < place {
-        return ArrayAnswer::Refused(Refusal::Parse);
-    }
-    if buf.len() - place < width_bytes(width) * (count as usize) {
-        return ArrayAnswer::Refused(Refusal::Parse);
-    }
-    ArrayAnswer::Array(StripArray {
-        place,
-        width,
-        count: count as usize,
-    })
-}
-
-// The strip array of an entry.
-pub fn read_array(buf: &[u8], ty: u16, count: u32, off: usize, e: Endian) -> ArrayAnswer
-    ensures { λ r. ⌜ arrayOf (orderOf e) (now (buf .entry)) r ≡ array (orderOf e) (now (buf .entry)) ty count off ⌝ }
-{
-    let size = tiff_type_size(ty);
-    if size == 0 {
-        return ArrayAnswer::Refused(Refusal::Decode);
-    }
-    match value_place(buf, size, count, off, e) {
-        Place::At(place) => array_at(buf, ty, count, place, e),
-        Place::Refused(r) => ArrayAnswer::Refused(r),
-    }
-}
-
-// Value i of a strip array; 0 where there is none.
-pub fn strip_value(buf: &[u8], a: StripArray, i: usize, e: Endian) -> usize
-    ensures { λ r. ⌜ r ≡ getD (valuesOf (orderOf e) (now (buf .entry)) a) i 0 ⌝ }
-{
-    if a.count <= i {
-        return 0;
-    }
-    let width = a.width;
-    let size = width_bytes(width);
-    if buf.len() < a.place {
-        return 0;
-    }
-    if (buf.len() - a.place) / size <= i {
-        return 0;
-    }
-    match read_number(buf, a.place + size * i, width, e) {
-        U32::Value(n) => n as usize,
-        U32::Parse => 0,
-    }
-}
+ghost use mathlib.Core.Bool.{true};
+ghost use Prim.Native.Nat.{ℕ, _≤_};
+ghost use Rattle.lsm_format.specs.Answer.{bind, need, decode, unsupported};
+ghost use Rattle.lsm_format.specs.Code.{orderOf, checkOf};
+ghost use Rattle.lsm_format.specs.Numbers.{Order};
+ghost use Rattle.lsm_format.specs.Directory as Rule;
+ghost use Rattle.lsm_format.specs.Directory.{plain, tagOf, isReduced, isShort, put, putCz, putField, czLsmInfo, entryBy, entry};
+ghost use Rattle.lsm_format.specs.Open.{sameGeometry};
+ghost use Rattle.lsm_directory.specs.Pages.{directoryEnds, pageAgrees};
+ghost use Rattle.lsm_directory.specs.Code.{fieldMeant, tagMeant, directoryOf, putStated, stepOf, endsOf, SmallEnds, firstMeant};
 
 // The CZ-LSM-Info entry: where its block stands and how many bytes it declares.
 pub enum CzEntry {
     Absent,
-    Block(usize, usize),
+    Block(u32, usize),
 }
 
 // What a directory states.
 pub struct Directory {
-    pub reduced: bool,
     pub width: u32,
     pub height: u32,
     pub samples: u16,
     pub bits: u16,
     pub sample_format: u16,
-    pub planar: bool,
     pub compression: u16,
     pub offsets: StripArray,
     pub counts: StripArray,
     pub cz: CzEntry,
+    pub reduced: bool,
+    pub planar: bool,
 }
 
-pub enum Step {
-    Next(Directory),
-    Refused(Refusal),
+// What a directory states that states nothing.
+pub fn plain_directory() -> Directory
+    ensures { λ r. ⌜ ((o : Order) (f : List ℕ) → directoryOf o f r ≡ plain) ⌝ }
+{
+    let none = StripArray {
+        place: 0,
+        count: 0,
+        width: Width::One,
+    };
+    Directory {
+        width: 0,
+        height: 0,
+        samples: 1,
+        bits: 1,
+        sample_format: 1,
+        compression: 1,
+        offsets: none,
+        counts: none,
+        cz: CzEntry::Absent,
+        reduced: false,
+        planar: false,
+    }
 }
 
 // The tags of scalars that are used.
@@ -276,6 +110,28 @@ pub fn tag_of(tag: u16) -> Tag
     }
 }
 
+// What an entry states.
+pub enum Value {
+    Reduced(bool),
+    Width(u32),
+    Height(u32),
+    Bits(u16),
+    Compression(u16),
+    Samples(u16),
+    Planar(bool),
+    SampleFormat(u16),
+    Offsets(StripArray),
+    Counts(StripArray),
+    CzBlock(u32, usize),
+    Nothing,
+}
+
+// An entry is read apart from the directory that it goes into, so that a long chain does not carry directories through its answers.
+pub enum EntryAnswer {
+    Value(Value),
+    Refused(Refusal),
+}
+
 // Bit 0 marks a reduced page and bit 2 a mask: neither is a picture.
 fn is_reduced(v: u32) -> bool
     ensures { λ r. ⌜ r ≡ isReduced v ⌝ }
@@ -284,6 +140,49 @@ fn is_reduced(v: u32) -> bool
         return true;
     }
     v / 4 % 2 == 1
+}
+
+// The directory with a CZ entry.
+fn put_cz(d: Directory, offset: u32, declared: usize) -> Directory
+    ensures { λ r. ⌜ ((o : Order) (f : List ℕ) → directoryOf o f r ≡ putCz offset declared (directoryOf o f d)) ⌝ }
+{
+    let offsets = d.offsets;
+    let counts = d.counts;
+    Directory {
+        width: d.width,
+        height: d.height,
+        samples: d.samples,
+        bits: d.bits,
+        sample_format: d.sample_format,
+        compression: d.compression,
+        offsets,
+        counts,
+        cz: CzEntry::Block(offset, declared),
+        reduced: d.reduced,
+        planar: d.planar,
+    }
+}
+
+// The directory with what an entry states. Of a repeated tag the last wins.
+pub fn put_value(d: Directory, v: Value) -> Directory
+    ensures { λ r. ⌜ ((o : Order) (f : List ℕ) → directoryOf o f r ≡ putStated o f v (directoryOf o f d)) ⌝ }
+{
+    let mut next = d;
+    match v {
+        Value::Reduced(b) => next.reduced = b,
+        Value::Width(n) => next.width = n,
+        Value::Height(n) => next.height = n,
+        Value::Bits(n) => next.bits = n,
+        Value::Compression(n) => next.compression = n,
+        Value::Samples(n) => next.samples = n,
+        Value::Planar(b) => next.planar = b,
+        Value::SampleFormat(n) => next.sample_format = n,
+        Value::Offsets(a) => next.offsets = a,
+        Value::Counts(a) => next.counts = a,
+        Value::CzBlock(offset, declared) => return put_cz(d, offset, declared),
+        Value::Nothing => {}
+    }
+    next
 }
 
 // The scalars that have 16 bits.
@@ -302,107 +201,169 @@ fn is_short_field(t: Field) -> bool
     }
 }
 
-// The directory with a scalar's value.
-fn put(t: Field, v: u32, d: Directory) -> Directory
+// What a scalar that fits its field states.
+fn scalar_value(t: Field, v: u32) -> Value
     requires { ⌜ (isShort (fieldMeant t) ≡ true → v ≤ 65535) ⌝ }
-    ensures { λ r. ⌜ ((o : Order) (f : List ℕ) → directoryOf o f r ≡ putValue (fieldMeant t) v (directoryOf o f d)) ⌝ }
+    ensures { λ r. ⌜ ((o : Order) (f : List ℕ) (d : Rule.Directory) → putStated o f r d ≡ put (fieldMeant t) v d) ⌝ }
 {
-    let mut next = d;
     match t {
-        Field::NewSubfileType => next.reduced = is_reduced(v),
-        Field::ImageWidth => next.width = v,
-        Field::ImageLength => next.height = v,
-        Field::BitsPerSample => next.bits = v as u16,
-        Field::Compression => next.compression = v as u16,
-        Field::SamplesPerPixel => next.samples = v as u16,
-        Field::PlanarConfiguration => next.planar = v == 2,
-        Field::SampleFormat => next.sample_format = v as u16,
+        Field::NewSubfileType => Value::Reduced(is_reduced(v)),
+        Field::ImageWidth => Value::Width(v),
+        Field::ImageLength => Value::Height(v),
+        Field::BitsPerSample => Value::Bits(v as u16),
+        Field::Compression => Value::Compression(v as u16),
+        Field::SamplesPerPixel => Value::Samples(v as u16),
+        Field::PlanarConfiguration => Value::Planar(v == 2),
+        Field::SampleFormat => Value::SampleFormat(v as u16),
     }
-    next
 }
 
-// The directory with a scalar's value, where it has no more bits than the scalar.
-fn put_field(t: Field, v: u32, d: Directory) -> Step
-    ensures { λ r. ⌜ ((o : Order) (f : List ℕ) → stepOf o f r ≡ putField (fieldMeant t) v (directoryOf o f d)) ⌝ }
+// What a scalar states, where it has no more bits than its field.
+fn field_value(t: Field, v: u32) -> EntryAnswer
+    ensures { λ r. ⌜ ((o : Order) (f : List ℕ) (d : Rule.Directory) → stepOf o f r d ≡ putField (fieldMeant t) v d) ⌝ }
 {
     if 65_535 < v {
         if is_short_field(t) {
-            return Step::Refused(Refusal::Decode);
+            return EntryAnswer::Refused(Refusal::Decode);
         }
     }
-    Step::Next(put(t, v, d))
+    EntryAnswer::Value(scalar_value(t, v))
 }
 
 // The CZ entry: its values never fit into four bytes, so it holds an offset.
-fn cz_entry(buf: &[u8], ty: u16, count: u32, off: usize, d: Directory, e: Endian) -> Step
-    ensures { λ r. ⌜ stepOf (orderOf e) (now (buf .entry)) r ≡ entryBy czLsmInfo (orderOf e) (now (buf .entry)) ty count off (directoryOf (orderOf e) (now (buf .entry)) d) ⌝ }
+fn cz_value(buf: &[u8], ty: u16, count: u32, off: usize, e: Endian) -> EntryAnswer
+    ensures { λ r. ⌜ ((d : Rule.Directory) → stepOf (orderOf e) (now (buf .entry)) r d ≡ entryBy czLsmInfo (orderOf e) (now (buf .entry)) ty count off d) ⌝ }
 {
     let total = tiff_type_size(ty) * (count as usize);
     if total <= 4 {
-        return Step::Refused(Refusal::Decode);
+        return EntryAnswer::Refused(Refusal::Decode);
     }
     let U32::Value(offset) = read_u32(buf, off, e) else {
-        return Step::Refused(Refusal::Parse);
+        return EntryAnswer::Refused(Refusal::Parse);
     };
-    let offsets = d.offsets;
-    let counts = d.counts;
-    Step::Next(Directory {
-        reduced: d.reduced,
-        width: d.width,
-        height: d.height,
-        samples: d.samples,
-        bits: d.bits,
-        sample_format: d.sample_format,
-        planar: d.planar,
-        compression: d.compression,
-        offsets,
-        counts,
-        cz: CzEntry::Block(offset as usize, total),
-    })
+    EntryAnswer::Value(Value::CzBlock(offset, total))
 }
 
-// What an entry makes of the directory, by its tag.
-fn entry_by(buf: &[u8], t: Tag, ty: u16, count: u32, off: usize, d: Directory, e: Endian) -> Step
-    ensures { λ r. ⌜ stepOf (orderOf e) (now (buf .entry)) r ≡ entryBy (tagMeant t) (orderOf e) (now (buf .entry)) ty count off (directoryOf (orderOf e) (now (buf .entry)) d) ⌝ }
+// What an entry states, by its tag.
+fn value_by(buf: &[u8], t: Tag, ty: u16, count: u32, off: usize, e: Endian) -> EntryAnswer
+    ensures { λ r. ⌜ ((d : Rule.Directory) → stepOf (orderOf e) (now (buf .entry)) r d ≡ entryBy (tagMeant t) (orderOf e) (now (buf .entry)) ty count off d) ⌝ }
 {
     match t {
         Tag::Field(field) => match read_scalar(buf, ty, count, off, e) {
-            Scalar::Value(v) => put_field(field, v, d),
-            Scalar::Refused(r) => Step::Refused(r),
+            Scalar::Value(v) => field_value(field, v),
+            Scalar::Refused(r) => EntryAnswer::Refused(r),
         },
         Tag::StripOffsets => match read_array(buf, ty, count, off, e) {
-            ArrayAnswer::Array(a) => {
-                let mut next = d;
-                next.offsets = a;
-                Step::Next(next)
-            }
-            ArrayAnswer::Refused(r) => Step::Refused(r),
+            ArrayAnswer::Array(a) => EntryAnswer::Value(Value::Offsets(a)),
+            ArrayAnswer::Decode => EntryAnswer::Refused(Refusal::Decode),
+            ArrayAnswer::Parse => EntryAnswer::Refused(Refusal::Parse),
         },
         Tag::StripByteCounts => match read_array(buf, ty, count, off, e) {
-            ArrayAnswer::Array(a) => {
-                let mut next = d;
-                next.counts = a;
-                Step::Next(next)
-            }
-            ArrayAnswer::Refused(r) => Step::Refused(r),
+            ArrayAnswer::Array(a) => EntryAnswer::Value(Value::Counts(a)),
+            ArrayAnswer::Decode => EntryAnswer::Refused(Refusal::Decode),
+            ArrayAnswer::Parse => EntryAnswer::Refused(Refusal::Parse),
         },
-        Tag::CzLsmInfo => cz_entry(buf, ty, count, off, d, e),
-        Tag::Other => Step::Next(d),
+        Tag::CzLsmInfo => cz_value(buf, ty, count, off, e),
+        Tag::Other => EntryAnswer::Value(Value::Nothing),
     }
 }
 
-// What the entry at a place makes of the directory.
-pub fn read_entry(buf: &[u8], at: usize, d: Directory, e: Endian) -> Step
-    ensures { λ r. ⌜ stepOf (orderOf e) (now (buf .entry)) r ≡ entry (orderOf e) (now (buf .entry)) at (directoryOf (orderOf e) (now (buf .entry)) d) ⌝ }
+// What the entry at a place states, whatever the entries before it stated.
+pub fn read_entry(buf: &[u8], at: usize, e: Endian) -> EntryAnswer
+    ensures { λ r. ⌜ ((d : Rule.Directory) → stepOf (orderOf e) (now (buf .entry)) r d ≡ entry (orderOf e) (now (buf .entry)) at d) ⌝ }
 {
     let U16::Value(tag) = read_u16(buf, at, e) else {
-        return Step::Refused(Refusal::Parse);
+        return EntryAnswer::Refused(Refusal::Parse);
     };
     let U16::Value(ty) = read_u16(buf, at + 2, e) else {
-        return Step::Refused(Refusal::Parse);
+        return EntryAnswer::Refused(Refusal::Parse);
     };
     let U32::Value(count) = read_u32(buf, at + 4, e) else {
-        return Step::Refused(Refusal::Parse);
+        return EntryAnswer::Refused(Refusal::Parse);
     };
-    entry_by(buf, tag_of(tag), ty, count, at + 8, d, e)
+    value_by(buf, tag_of(tag), ty, count, at + 8, e)
+}
+
+// How many entries a directory has, and where the next directory stands.
+pub enum Ends {
+    At(usize, usize),
+    Parse,
+}
+
+// A directory's count of entries and its next pointer, which comes before any entry.
+pub fn directory_ends(buf: &[u8], place: usize, e: Endian) -> Ends
+    ensures ends { λ r. ⌜ endsOf r ≡ directoryEnds (orderOf e) (now (buf .entry)) place ⌝ }
+    ensures small { λ r. ⌜ SmallEnds r ⌝ }
+{
+    let U16::Value(n) = read_u16(buf, place, e) else {
+        return Ends::Parse;
+    };
+    let U32::Value(next) = read_u32(buf, place + 2 + 12 * (n as usize), e) else {
+        return Ends::Parse;
+    };
+    Ends::At(n as usize, next as usize)
+}
+
+// The first full page, once there is one.
+pub enum First {
+    Absent,
+    Page(Directory),
+}
+
+// Whether two full pages have the same geometry, as stored.
+fn same_geometry(a: Directory, b: Directory) -> bool
+    ensures { λ r. ⌜ ((o : Order) (f : List ℕ) → r ≡ sameGeometry (directoryOf o f a) (directoryOf o f b)) ⌝ }
+{
+    if a.width != b.width {
+        return false;
+    }
+    if a.height != b.height {
+        return false;
+    }
+    if a.samples != b.samples {
+        return false;
+    }
+    if a.bits != b.bits {
+        return false;
+    }
+    if a.sample_format != b.sample_format {
+        return false;
+    }
+    if a.compression != b.compression {
+        return false;
+    }
+    a.planar == b.planar
+}
+
+// What a full page agrees on with the first: its geometry, then its strip count.
+fn page_check(geometry: bool, strips: bool) -> Check
+    ensures { λ r. ⌜ checkOf r ≡ bind (need unsupported geometry) (λ _. need decode strips) ⌝ }
+{
+    if !geometry {
+        return Check::Refused(Refusal::Unsupported); // geometry
+    }
+    if !strips {
+        return Check::Refused(Refusal::Decode); // strip count
+    }
+    Check::Accepted
+}
+
+// Whether a directory whose entries are all read can stand where it does: it has as many strip lengths as offsets, and a full page
+// agrees with the first.
+pub fn agrees(first: First, d: Directory) -> Check
+    ensures { λ r. ⌜ ((o : Order) (f : List ℕ) → checkOf r ≡ pageAgrees (firstMeant o f first) (directoryOf o f d)) ⌝ }
+{
+    let offsets = d.offsets;
+    let counts = d.counts;
+    if offsets.count != counts.count {
+        return Check::Refused(Refusal::Decode);
+    }
+    if d.reduced {
+        return Check::Accepted;
+    }
+    let First::Page(page) = first else {
+        return Check::Accepted;
+    };
+    let expected = page.offsets;
+    page_check(same_geometry(d, page), offsets.count == expected.count)
 }

@@ -13,7 +13,7 @@ use Rattle.lsm_format.specs.Picture.{Samples, plane, region, into, bufferBy}
 use Rattle.lsm_format.specs.Rectangle.{Rect}
 use Rattle.lsm_format.specs.Listed.{listed, listedFor}
 use Rattle.lsm_channel_colors.specs.Code.{Looked, Seen, seen}
-use Rattle.lsm_reader.specs.Code.{descriptionOf}
+use Rattle.lsm_description.specs.Code.{descriptionOf}
 use Rattle.lsm_reader.specs.Opening.{OpenedAs, Told, toldOf, openedOf}
 use Rattle.lsm_reader.specs.declared.open.Opened.{Opened}
 use Rattle.lsm_reader.specs.declared.open.OpenAnswer.{OpenAnswer}

@@ -7,13 +7,13 @@ use lsm_channel_colors::ChannelAnswer;
 use lsm_channel_colors::ChannelMeta;
 use lsm_channel_colors::Color;
 use lsm_channel_colors::Name;
-use lsm_reader::Description;
-use lsm_reader::channel;
+use lsm_description::Description;
+use lsm_description::channel;
 ghost use mathlib.Core.List.{[], _∷_};
 ghost use Prim.Native.Nat.{_<_};
 ghost use Rattle.lsm_format.specs.Printout.{text, colorText, nameText, channelLine, channelsLine, channelsOf, each};
 ghost use Rattle.lsm_channel_colors.specs.Code.{colorOf, nameOf, metaOf};
-ghost use Rattle.lsm_reader.specs.Code.{descriptionOf};
+ghost use Rattle.lsm_description.specs.Code.{descriptionOf};
 ghost use Rattle.lsm_printout.specs.Channel.{firstOf, channelOf};
 ghost use Rattle.lsm_printout.specs.Put.{Put};
 

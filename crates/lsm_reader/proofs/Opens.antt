@@ -14,12 +14,12 @@ use Rattle.lsm_format.specs.Open as Open
 use Rattle.lsm_format.proofs.Lent.{lend-room, lend-short, filled-room, filled-short}
 use Rattle.lsm_format.specs.declared.error.Refusal.{Refusal}
 use Rattle.lsm_format.specs.declared.error.Refusal.the-variants.{TooShort}
-use Rattle.lsm_reader.specs.Code.{descriptionOf}
-use Rattle.lsm_chain.specs.Walked.{walkOf, answerOf, Counted, WalkedAs}
+use Rattle.lsm_description.specs.Code.{descriptionOf}
+use Rattle.lsm_reader.specs.Walked.{walkOf, answerOf, Counted, WalkedAs}
 use Rattle.lsm_reader.specs.Opening.{OpenedAs}
-use Rattle.lsm_chain.specs.declared.Walk.{Walk as Kept}
-use Rattle.lsm_chain.specs.declared.WalkAnswer.{WalkAnswer}
-use Rattle.lsm_chain.specs.declared.WalkAnswer.the-variants.{Walked, Refused}
+use Rattle.lsm_reader.specs.declared.chain.Walk.{Walk as Kept}
+use Rattle.lsm_reader.specs.declared.chain.WalkAnswer.{WalkAnswer}
+use Rattle.lsm_reader.specs.declared.chain.WalkAnswer.the-variants.{Walked, Refused}
 use Rattle.lsm_reader.specs.declared.open.Opened.{Opened}
 use Rattle.lsm_reader.specs.declared.open.OpenAnswer.the-variants.{Opened as OpenedWith, Refused as NotOpened}
 

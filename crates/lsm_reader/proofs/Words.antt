@@ -11,12 +11,13 @@ use Rattle.lsm_format.specs.Numbers.{Order}
 use Rattle.lsm_format.specs.Open.{Page, Walk, walk, tableWords}
 use Rattle.lsm_format.proofs.Accepting.{accepting-told}
 use Rattle.lsm_format.proofs.Pages.{Even, walk-even}
-use Rattle.lsm_directory.proofs.Laws.{values-length}
-use Rattle.lsm_chain.specs.Walked.{firstMeant, walkOf}
+use Rattle.lsm_values.proofs.Laws.{values-length}
+use Rattle.lsm_reader.specs.Walked.{walkOf}
+use Rattle.lsm_directory.specs.Code.{firstMeant}
 use Rattle.lsm_reader.specs.Opening.{stripsOf}
-use Rattle.lsm_chain.specs.declared.First.{First}
-use Rattle.lsm_chain.specs.declared.First.the-variants.{Absent, Page as FirstPage}
-use Rattle.lsm_chain.specs.declared.Walk.{Walk as Kept}
+use Rattle.lsm_directory.specs.declared.First.{First}
+use Rattle.lsm_directory.specs.declared.First.the-variants.{Absent, Page as FirstPage}
+use Rattle.lsm_reader.specs.declared.chain.Walk.{Walk as Kept}
 
 -- the words of a walk, by its count of pages and the strips of its first page
 by-first : (o : Order) (f : List ℕ) (ps : List Page) (n : ℕ) (x : First) → Even (firstMeant o f x) ps → n ≡ length ps →

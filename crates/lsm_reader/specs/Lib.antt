@@ -1,2 +1,2 @@
-pub mod Code
+pub mod Walked
 pub mod Opening

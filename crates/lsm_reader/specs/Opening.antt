@@ -4,34 +4,14 @@ use mathlib.Core.Path.{_≡_}
 use mathlib.Core.List.{List}
 use lib.ListN.{length}
 use Rattle.lsm_format.specs.Answer.{Result, accepted, refused}
-use Rattle.lsm_format.specs.Code.{rowOf, orderOf, kindOf}
-use Rattle.lsm_format.specs.Numbers as Numbers
-use Rattle.lsm_format.specs.Sizes as Sizes
+use Rattle.lsm_format.specs.Code.{rowOf}
 use Rattle.lsm_format.specs.Open as Rule
 use Rattle.lsm_format.specs.Open.{openFile, openMemory}
-use Rattle.lsm_reader.specs.Code.{descriptionOf}
-use Rattle.lsm_chain.specs.declared.First.{First}
-use Rattle.lsm_chain.specs.declared.First.the-variants.{Absent, Page}
-use Rattle.lsm_reader.specs.declared.open.HeaderAnswer.{HeaderAnswer}
-use Rattle.lsm_reader.specs.declared.open.HeaderAnswer.the-variants.{Order, Refused as RefusedHeader}
-use Rattle.lsm_reader.specs.declared.open.SampleAnswer.{SampleAnswer}
-use Rattle.lsm_reader.specs.declared.open.SampleAnswer.the-variants.{Kind, Refused as RefusedSample}
-use Rattle.lsm_reader.specs.declared.open.DescriptionAnswer.{DescriptionAnswer}
-use Rattle.lsm_reader.specs.declared.open.DescriptionAnswer.the-variants.{Described, Refused as RefusedDescription}
+use Rattle.lsm_description.specs.Code.{descriptionOf}
+use Rattle.lsm_directory.specs.declared.First.{First}
+use Rattle.lsm_directory.specs.declared.First.the-variants.{Absent, Page}
 use Rattle.lsm_reader.specs.declared.open.OpenAnswer.{OpenAnswer}
 use Rattle.lsm_reader.specs.declared.open.OpenAnswer.the-variants.{Opened, Refused as RefusedOpen}
-
-abbrev pub headerOf : HeaderAnswer → Result Numbers.Order
-headerOf (Order e) = accepted (orderOf e)
-headerOf (RefusedHeader r) = refused (rowOf r)
-
-abbrev pub sampleOf : SampleAnswer → Result Sizes.Kind
-sampleOf (Kind k) = accepted (kindOf k)
-sampleOf (RefusedSample r) = refused (rowOf r)
-
-abbrev pub describedOf : DescriptionAnswer → Result Rule.Description
-describedOf (Described d) = accepted (descriptionOf d)
-describedOf (RefusedDescription r) = refused (rowOf r)
 
 -- the strips of the first full page
 abbrev pub stripsOf : First → ℕ

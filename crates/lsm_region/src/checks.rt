@@ -5,13 +5,13 @@ use crate::pages::whole_rows;
 use crate::strips::strips_inside;
 use crate::strips::strips_make;
 use crate::strips::strips_of_rows;
+use lsm_description::Description;
 use lsm_format::error::Check;
 use lsm_format::error::Refusal;
 use lsm_format::types::Dims5;
 use lsm_format::types::PixelRect;
 use lsm_format::types::PlaneBytes;
 use lsm_format::types::checked_coordinates;
-use lsm_reader::Description;
 ghost use mathlib.Core.Path.{_≡_};
 ghost use mathlib.Core.Bool.{true};
 ghost use Prim.Native.Nat.{_<_};
@@ -20,7 +20,7 @@ ghost use Rattle.lsm_format.specs.Code.{rowOf, rectOf, checkOf};
 ghost use Rattle.lsm_format.specs.Rectangle.{rectangle};
 ghost use Rattle.lsm_format.specs.Sizes.{pictureSize};
 ghost use Rattle.lsm_format.specs.Picture.{coordinate, planeStrips, windowStrips, regionStrips, wholeRows};
-ghost use Rattle.lsm_reader.specs.Code.{descriptionOf};
+ghost use Rattle.lsm_description.specs.Code.{descriptionOf};
 ghost use Rattle.lsm_region.specs.Parts.{firstOf, rowStrips};
 
 // The scene, then t, c and z.

@@ -1,8 +1,8 @@
 // The bytes of a channel's strips, copied. No place in the joined strips is ever a number of the machine: joined, the strips of an
 // oversized picture may have more bytes than 64 bits can count.
+use lsm_description::Description;
 use lsm_format::types::Endian;
 use lsm_format::types::PixelRect;
-use lsm_reader::Description;
 ghost use mathlib.Core.Path.{_≡_};
 ghost use mathlib.Core.Bool.{true};
 ghost use mathlib.Core.List.{reverse};
@@ -11,7 +11,7 @@ ghost use lib.ListN.{length};
 ghost use Rattle.lsm_format.specs.Picture.{total, stored, inside, span, bytes, window, channelPicture};
 ghost use Rattle.lsm_format.specs.Code.{rectOf};
 ghost use Rattle.lsm_format.specs.Sizes.{pictureBytes};
-ghost use Rattle.lsm_reader.specs.Code.{descriptionOf};
+ghost use Rattle.lsm_description.specs.Code.{descriptionOf};
 ghost use Rattle.lsm_format.proofs.Picture.{held};
 ghost use Rattle.lsm_region.specs.Cursor.{Stands, RowsIn, SampleSize};
 ghost use Rattle.lsm_region.specs.Parts.{Ready};

@@ -1,17 +1,17 @@
 // Where a picture's strips stand in the table, and whether all pages' strips hold whole rows. A handed-in description can name any
 // page, so every product is tested before it is used.
 use crate::strips::strips_of_rows;
+use lsm_description::Description;
 use lsm_format::checked::Word;
 use lsm_format::checked::checked_mul;
 use lsm_format::error::Refusal;
 use lsm_positions::PageIndex;
-use lsm_reader::Description;
 ghost use mathlib.Core.Path.{_≡_};
 ghost use mathlib.Core.Bool.{true};
 ghost use Prim.Native.Nat.{_+_, _*_, _≤_, _<_};
 ghost use lib.ListN.{length};
 ghost use Rattle.lsm_format.specs.Picture.{stripsPerPage, channelStrips, rowBytes, wholeChannels, wholePages, wholeRows};
-ghost use Rattle.lsm_reader.specs.Code.{descriptionOf};
+ghost use Rattle.lsm_description.specs.Code.{descriptionOf};
 ghost use Rattle.lsm_region.specs.Parts.{firstOf, pageIn, wholePage};
 
 // The first strip of a picture, or why there is none.

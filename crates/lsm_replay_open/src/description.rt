@@ -1,10 +1,10 @@
 // A description as the 17 words of the lists; what is absent is 0.
 use calibration::Calibration;
 use calibration::ZStep;
+use lsm_description::Description;
 use lsm_format::types::ChannelBlock;
 use lsm_format::types::DType;
 use lsm_format::types::Endian;
-use lsm_reader::Description;
 ghost use mathlib.Core.Path.{_≡_};
 ghost use Prim.Native.Nat.{_<_, _≤_};
 ghost use lib.ListN.{getD};

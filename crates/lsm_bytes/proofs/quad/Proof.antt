@@ -3,59 +3,51 @@ use borrow.Author.Needs.{needs}
 use Rattle.lsm_bytes.proofs.quad.Statement.{statement}
 use Rattle.lsm_bytes.proofs.quad.Tie as tie
 
-pair-requires : tie.Need-pair-requires
-pair-requires c κs = search needs
+mul-n : tie.Need-mul-n
+mul-n c = search needs
 
-cast-first : tie.Need-cast-first
-cast-first c = search needs
+add-n : tie.Need-add-n
+add-n c = search needs
 
-pair-requires-2 : tie.Need-pair-requires-2
-pair-requires-2 c κs = search needs
+mul-n-2 : tie.Need-mul-n-2
+mul-n-2 c = search needs
 
-cast-second : tie.Need-cast-second
-cast-second c = search needs
+add-n-2 : tie.Need-add-n-2
+add-n-2 c = search needs
+
+mul-n-3 : tie.Need-mul-n-3
+mul-n-3 c = search needs
+
+add-n-3 : tie.Need-add-n-3
+add-n-3 c = search needs
 
 enum-told : tie.Need-enum-told
 enum-told c = search needs
 
-mul-result : tie.Need-mul-result
-mul-result c = search needs
-
-add-result : tie.Need-add-result
-add-result c = search needs
-
 enum-told-2 : tie.Need-enum-told-2
 enum-told-2 c = search needs
 
-mul-result-2 : tie.Need-mul-result-2
-mul-result-2 c = search needs
-
-add-result-2 : tie.Need-add-result-2
-add-result-2 c = search needs
+swapped-requires : tie.Need-swapped-requires
+swapped-requires c κs = search needs
 
 returns : tie.Need-returns
-returns c =
-    let b = c .before .before in
-    rw (c .enum-told .given .1) (omega (arith, rw (c .enum-told .given .1) at (b .pair2 .ensures), rw (c .enum-told .given .1) at (b .before .pair .ensures)))
+returns c = rw (c .enum-told .given .1) (omega arith)
 
 returns-2 : tie.Need-returns-2
-returns-2 c =
-    let b = c .before .before in
-    rw (c .enum-told2 .given .1) (omega (arith, rw (c .enum-told2 .given .1) at (b .pair2 .ensures), rw (c .enum-told2 .given .1) at (b .before .pair .ensures)))
+returns-2 c = rw (c .before .enum-told2 .given .1) (c .swapped .ensures _ _ _ _ (omega arith) (omega arith) (omega arith) (omega arith) (omega arith))
 
 pub quad-spec : {M : Type 1} → statement M
 quad-spec =
     tie.close
     (tie.spec
-    pair-requires
-    cast-first
-    pair-requires-2
-    cast-second
+    mul-n
+    add-n
+    mul-n-2
+    add-n-2
+    mul-n-3
+    add-n-3
     enum-told
-    mul-result
-    add-result
     enum-told-2
-    mul-result-2
-    add-result-2
+    swapped-requires
     returns
     returns-2)

@@ -1,7 +1,7 @@
 -- `lsm_c::look_up` meets its contract. Assumes nothing.
 use mathlib.Core.Path.{sym, ap, _∙_}
 use borrow.Author.Needs.{needs}
-use Rattle.lsm_reader.specs.Opening.{describedOf}
+use Rattle.lsm_description.specs.Code.{describedOf}
 use Rattle.lsm_c.proofs.Calls.{described, no-description}
 use Rattle.lsm_c.proofs.look_up.Statement.{statement}
 use Rattle.lsm_c.proofs.look_up.Tie as tie

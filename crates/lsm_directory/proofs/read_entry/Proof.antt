@@ -1,8 +1,8 @@
-use native.Mathlib.Omega.{arith}
-use mathlib.Core.Path.{sym, ap, _∙_}
-use Rattle.lsm_format.proofs.Directory.{entry-no-tag, entry-no-type, entry-no-count, entry-is}
-use Rattle.lsm_format.proofs.Numbers.{number-inside}
 use Rattle.lsm_bytes.specs.Code.{u16Of, u32Of}
+use Rattle.lsm_format.proofs.Numbers.{number-inside}
+use Rattle.lsm_format.proofs.Directory.{entry-no-tag, entry-no-type, entry-no-count, entry-is}
+use mathlib.Core.Path.{sym, ap, _∙_}
+use native.Mathlib.Omega.{arith}
 use borrow.Author.Needs.{needs}
 use Rattle.lsm_directory.proofs.read_entry.Statement.{statement}
 use Rattle.lsm_directory.proofs.read_entry.Tie as tie
@@ -17,7 +17,7 @@ enum-told : tie.Need-enum-told
 enum-told c = search needs
 
 returns : tie.Need-returns
-returns c = entry-no-tag _ _ _ _ (sym (c .before .before .read-u16 .ensures) ∙ ap u16Of (c .enum-told .given .1))
+returns c = λ d. entry-no-tag _ _ _ d (sym (c .before .before .read-u16 .ensures) ∙ ap u16Of (c .enum-told .given .1))
 
 add-read-u16 : tie.Need-add-read-u16
 add-read-u16 c =
@@ -37,7 +37,7 @@ returns-2 : tie.Need-returns-2
 returns-2 c =
     let r = c .before .before in
     let t = r .before .before in
-    entry-no-type _ _ _ _ _ (sym (t .before .before .read-u16 .ensures) ∙ ap u16Of (t .tag .given .1)) (sym (r .read-u162 .ensures) ∙ ap u16Of (c .enum-told2 .given .1))
+    λ d. entry-no-type _ _ _ d _ (sym (t .before .before .read-u16 .ensures) ∙ ap u16Of (t .tag .given .1)) (sym (r .read-u162 .ensures) ∙ ap u16Of (c .enum-told2 .given .1))
 
 add-read-u32 : tie.Need-add-read-u32
 add-read-u32 c =
@@ -58,25 +58,26 @@ returns-3 c =
     let r = c .before .before in
     let y = r .before .before in
     let t = y .before .before .before .before in
-    entry-no-count _ _ _ _ _ (sym (t .before .before .read-u16 .ensures) ∙ ap u16Of (t .tag .given .1)) _ (sym (y .before .before .read-u162 .ensures) ∙ ap u16Of (y .ty .given .1)) (sym (r .read-u32 .ensures) ∙ ap u32Of (c .enum-told3 .given .1))
+    λ d. entry-no-count _ _ _ d _ (sym (t .before .before .read-u16 .ensures) ∙ ap u16Of (t .tag .given .1)) _ (sym (y .before .before .read-u162 .ensures) ∙ ap u16Of (y .ty .given .1)) (sym (r .read-u32 .ensures) ∙ ap u32Of (c .enum-told3 .given .1))
 
 tag-of-requires : tie.Need-tag-of-requires
 tag-of-requires c κs = search needs
 
-add-entry-by : tie.Need-add-entry-by
-add-entry-by c =
+add-value-by : tie.Need-add-value-by
+add-value-by c =
     let t = c .before .before .before .before .before .before .before .before .before .before in
     omega (arith, number-inside _ _ _ _ _ (sym (t .before .before .read-u16 .ensures) ∙ ap u16Of (t .tag .given .1)))
 
-entry-by-requires : tie.Need-entry-by-requires
-entry-by-requires c κs = search needs
+value-by-requires : tie.Need-value-by-requires
+value-by-requires c κs = search needs
 
 returns-4 : tie.Need-returns-4
 returns-4 c =
     let n = c .before .before .before in
     let y = n .before .before .before .before in
     let t = y .before .before .before .before in
-    c .entry-by .ensures ∙ entry-is _ _ _ _ _ (sym (t .before .before .read-u16 .ensures) ∙ ap u16Of (t .tag .given .1)) _ (sym (y .before .before .read-u162 .ensures) ∙ ap u16Of (y .ty .given .1))
+    λ d.
+    c .value-by .ensures d ∙ entry-is _ _ _ d _ (sym (t .before .before .read-u16 .ensures) ∙ ap u16Of (t .tag .given .1)) _ (sym (y .before .before .read-u162 .ensures) ∙ ap u16Of (y .ty .given .1))
     _ (sym (n .before .before .read-u32 .ensures) ∙ ap u32Of (n .count .given .1)) _ (c .before .tag-of .ensures)
 
 pub read-entry-spec : {M : Type 1} → statement M
@@ -98,6 +99,6 @@ read-entry-spec =
     enum-told-3
     returns-3
     tag-of-requires
-    add-entry-by
-    entry-by-requires
+    add-value-by
+    value-by-requires
     returns-4)

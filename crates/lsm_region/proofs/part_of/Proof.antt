@@ -7,7 +7,7 @@ use Rattle.lsm_format.proofs.Picture.{rectangle-within}
 use Rattle.lsm_region.specs.Parts.{firstOf}
 use Rattle.lsm_region.proofs.Answering.{ready-region, filled-empty, filled-unfit, filled-fit, pictured-as, pictured-refused}
 use Rattle.lsm_format.specs.Code.{rectOf}
-use Rattle.lsm_reader.specs.Code.{descriptionOf}
+use Rattle.lsm_description.specs.Code.{descriptionOf}
 
 is-empty-requires : tie.Need-is-empty-requires
 is-empty-requires c κs = search needs

@@ -8,7 +8,7 @@ use Rattle.lsm_format.specs.Answer.{accepted}
 use Rattle.lsm_format.specs.Code.{checkOf}
 use Rattle.lsm_format.specs.Picture.{coordinate}
 use Rattle.lsm_format.proofs.Picture.{coordinate-channel, plane-accepted}
-use Rattle.lsm_reader.specs.Code.{descriptionOf}
+use Rattle.lsm_description.specs.Code.{descriptionOf}
 use Rattle.lsm_region.specs.Parts.{firstOf}
 use Rattle.lsm_region.proofs.Answering.{ready-plane, pictured-as, pictured-refused, plane-outside, plane-unfit, plane-fit}
 

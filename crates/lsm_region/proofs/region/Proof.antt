@@ -7,7 +7,7 @@ use Rattle.lsm_format.specs.Answer.{accepted}
 use Rattle.lsm_format.specs.Code.{checkOf}
 use Rattle.lsm_format.specs.Picture.{coordinate}
 use Rattle.lsm_format.proofs.Picture.{coordinate-channel}
-use Rattle.lsm_reader.specs.Code.{descriptionOf}
+use Rattle.lsm_description.specs.Code.{descriptionOf}
 use Rattle.lsm_region.proofs.Answering.{pictured-as, pictured-refused, region-outside, region-off, region-within}
 
 placed : (c : tie.After-enum-told)

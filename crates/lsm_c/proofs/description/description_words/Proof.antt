@@ -1,6 +1,6 @@
 -- `lsm_c::description::description_words` meets its contract. Assumes nothing.
 use borrow.Author.Needs.{needs}
-use Rattle.lsm_reader.specs.Code.{descriptionOf}
+use Rattle.lsm_description.specs.Code.{descriptionOf}
 use Rattle.lsm_c.proofs.Words.{description-is}
 use Rattle.lsm_c.proofs.description.description_words.Statement.{statement}
 use Rattle.lsm_c.proofs.description.description_words.Tie as tie

@@ -1,7 +1,7 @@
 -- `lsm_c::description::read_description` meets its contract. Assumes nothing.
 use mathlib.Core.Path.{sym, ap, _∙_}
 use borrow.Author.Needs.{needs}
-use Rattle.lsm_reader.specs.Opening.{headerOf, sampleOf}
+use Rattle.lsm_description.specs.Code.{headerOf, sampleOf}
 use Rattle.lsm_c.specs.Code.{sizeAnswerOf, blockAnswerOf}
 use Rattle.lsm_c.proofs.Words.{no-order, no-kind, no-size, no-block, described-is}
 use Rattle.lsm_c.proofs.description.read_description.Statement.{statement}

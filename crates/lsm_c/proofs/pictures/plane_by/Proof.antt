@@ -1,5 +1,5 @@
 use mathlib.Core.Path.{sym, ap, _∙_}
-use Rattle.lsm_reader.specs.Opening.{describedOf}
+use Rattle.lsm_description.specs.Code.{describedOf}
 use Rattle.lsm_c.specs.Calls.{planeBy}
 use Rattle.lsm_c.proofs.Calls.{pictured-with, pictured-not}
 use borrow.Author.Needs.{needs}

@@ -4,7 +4,7 @@ use mathlib.Core.Path.{_≡_, sym}
 use lib.ListN.{length}
 use borrow.Author.Needs.{needs}
 use Rattle.lsm_format.specs.Printout.{text, each, channelLine, channelsOf}
-use Rattle.lsm_reader.specs.Code.{descriptionOf}
+use Rattle.lsm_description.specs.Code.{descriptionOf}
 use Rattle.lsm_printout.specs.Put.{Put}
 use Rattle.lsm_printout.proofs.Puts.{nothing, same}
 use Rattle.lsm_printout.proofs.Lines.{each-none, each-next, each-done}

@@ -5,7 +5,7 @@ use Rattle.lsm_format.specs.Answer.{bind}
 use Rattle.lsm_format.specs.Code.{orderOf}
 use Rattle.lsm_format.specs.Open as Open
 use Rattle.lsm_cz_info.specs.Code.{czOf}
-use Rattle.lsm_reader.specs.Opening.{sampleOf}
+use Rattle.lsm_description.specs.Code.{sampleOf}
 use borrow.Author.Needs.{needs}
 use Rattle.lsm_reader.proofs.open.describe_walk.Statement.{statement}
 use Rattle.lsm_reader.proofs.open.describe_walk.Tie as tie
@@ -48,6 +48,9 @@ returns-4 : tie.Need-returns-4
 unfolding Open.describeWalk bind
 returns-4 c = λ ps n. rw (c .before .before .before .before .before .before .before .before .before .first .given .1, eq-eqb _ _ (c .before .before .before .before .before .before .if1 .left), sym (c .before .before .before .before .before .map-dtype .ensures) ∙ ap sampleOf (c .before .before .before .k .given .1), c .enum-told2 .given .1)
 
+cast-t21 : tie.Need-cast-t21
+cast-t21 c = search needs
+
 parse-requires : tie.Need-parse-requires
 parse-requires c κs = search needs
 
@@ -86,6 +89,7 @@ describe-walk-spec =
     enum-known-entry
     enum-told-2
     returns-4
+    cast-t21
     parse-requires
     enum-known-info
     describe-requires

@@ -10,7 +10,7 @@ use borrow.Author.Tests.{not-true, not-false}
 use Rattle.lsm_format.specs.Answer.{accepted}
 use Rattle.lsm_format.specs.Picture.{channelStrips}
 use Rattle.lsm_format.proofs.Picture.{channel-room}
-use Rattle.lsm_reader.specs.Code.{descriptionOf}
+use Rattle.lsm_description.specs.Code.{descriptionOf}
 use Rattle.lsm_region.specs.Parts.{firstOf}
 use Rattle.lsm_region.proofs.Judging.{rows-nowhere, rows-broken, rows-outside, rows-at, whole-row}
 

@@ -7,7 +7,7 @@ use lib.ListN.{length}
 use Rattle.lsm_format.specs.Answer.{accepted}
 use Rattle.lsm_format.specs.Picture.{channelStrips}
 use Rattle.lsm_format.proofs.Picture.{channel-room, strips-nowhere}
-use Rattle.lsm_reader.specs.Code.{descriptionOf}
+use Rattle.lsm_description.specs.Code.{descriptionOf}
 use Rattle.lsm_region.specs.Parts.{firstOf}
 use Rattle.lsm_region.proofs.Judging.{strips-made, strips-unmade}
 

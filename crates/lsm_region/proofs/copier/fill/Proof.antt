@@ -7,7 +7,7 @@ use Prim.Native.Nat.{ℕ, _*_}
 use mathlib.Core.Path.{sym, ap, _∙_}
 use Rattle.lsm_format.specs.Code.{kindOf, orderOf, rectOf}
 use Rattle.lsm_format.specs.Sizes.{sampleSize}
-use Rattle.lsm_reader.specs.Code.{descriptionOf}
+use Rattle.lsm_description.specs.Code.{descriptionOf}
 use Rattle.lsm_format.proofs.Region.{size-rows, size-samples}
 use Rattle.lsm_region.proofs.Answering.{Wide, wide, ready-rows, sample-size, from-one, from-little, from-big}
 

@@ -12,7 +12,7 @@ use Rattle.lsm_format.proofs.Words.{told-value, told-overflow}
 use Rattle.lsm_format.proofs.Picture.{channel-nowhere, channel-missing, channel-at}
 use Rattle.lsm_format.specs.Scenes.{pageOf}
 use Rattle.lsm_positions.specs.Code.{indexOf, layoutOf}
-use Rattle.lsm_reader.specs.Code.{descriptionOf}
+use Rattle.lsm_description.specs.Code.{descriptionOf}
 use Rattle.lsm_region.proofs.Judging.{page-is, first-is, page-room, channel-part, page-over}
 
 -- the strips of a page don't overflow

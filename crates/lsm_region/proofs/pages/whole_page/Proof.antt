@@ -9,7 +9,7 @@ use mathlib.Core.Option.{some}
 use Rattle.lsm_format.specs.Words.{word}
 use Rattle.lsm_format.specs.Picture.{stripsPerPage}
 use Rattle.lsm_format.proofs.Words.{told-value, told-overflow, word-some}
-use Rattle.lsm_reader.specs.Code.{descriptionOf}
+use Rattle.lsm_description.specs.Code.{descriptionOf}
 use Rattle.lsm_region.proofs.Judging.{page-room, page-out, page-by-channels, page-lost}
 
 strips-told : (c : tie.After-has-page)

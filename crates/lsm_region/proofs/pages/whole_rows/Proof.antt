@@ -8,7 +8,7 @@ use mathlib.Core.Option.{some}
 use Rattle.lsm_format.specs.Words.{word}
 use Rattle.lsm_format.specs.Picture.{rowBytes}
 use Rattle.lsm_format.proofs.Words.{told-value, told-overflow, word-some}
-use Rattle.lsm_reader.specs.Code.{descriptionOf}
+use Rattle.lsm_description.specs.Code.{descriptionOf}
 use Rattle.lsm_region.proofs.Judging.{whole-wide, whole-empty, whole-many, whole-by}
 
 row-told : (c : tie.After-known-told) → word (rowBytes (descriptionOf (c .before .before .before .before .before .before .before .before .args .d))) ≡ some (c .before .row .given .0 .0)

@@ -1,0 +1,78 @@
+use mathlib.Core.Path.{sym, ap, _∙_}
+use Rattle.lsm_format.specs.Answer.{bind}
+use Rattle.lsm_format.specs.Code.{checkOf}
+use Rattle.lsm_format.specs.Open as Open
+use Rattle.lsm_positions.specs.Code.{answerOf}
+use Rattle.lsm_values.proofs.Laws.{values-length}
+use borrow.Author.Needs.{needs}
+use Rattle.lsm_description.proofs.describe.Statement.{statement}
+use Rattle.lsm_description.proofs.describe.Tie as tie
+use Rattle.lsm_description.proofs.describe.Reads as reads
+
+check-agreement-requires : tie.Need-check-agreement-requires
+check-agreement-requires c κs = search needs
+
+enum-told : tie.Need-enum-told
+enum-told c = search needs
+
+enum-known-r : tie.Need-enum-known-r
+enum-known-r c = search needs
+
+returns : tie.Need-returns
+unfolding Open.describe bind
+returns c = λ o f. rw (sym (c .before .before .before .check-agreement .ensures o f) ∙ ap checkOf (c .before .r .given .1))
+
+layout-for-requires : tie.Need-layout-for-requires
+layout-for-requires c κs = search needs
+
+enum-known-l : tie.Need-enum-known-l
+enum-known-l c = search needs
+
+enum-known-r-2 : tie.Need-enum-known-r-2
+enum-known-r-2 c = search needs
+
+returns-2 : tie.Need-returns-2
+unfolding Open.describe bind
+returns-2 c = λ o f. rw (sym (c .before .before .before .before .before .before .check-agreement .ensures o f) ∙ ap checkOf (c .before .before .before .before .enum-told .given .1), sym (c .before .before .before .layout-for .ensures) ∙ ap answerOf (c .before .r2 .given .1))
+
+cast-at-least-one : tie.Need-cast-at-least-one
+cast-at-least-one c = search needs
+
+at-least-one-requires : tie.Need-at-least-one-requires
+at-least-one-requires c κs = search needs
+
+at-least-one-requires-2 : tie.Need-at-least-one-requires-2
+at-least-one-requires-2 c κs = search needs
+
+cast-t20 : tie.Need-cast-t20
+cast-t20 c = search needs
+
+cast-t21 : tie.Need-cast-t21
+cast-t21 c = search needs
+
+div-t19 : tie.Need-div-t19
+div-t19 c = search needs
+
+returns-3 : tie.Need-returns-3
+unfolding Open.describe bind
+returns-3 c = λ o f. rw (sym (c .before .before .before .before .before .before .before .before .before .before .before .before .before .check-agreement .ensures o f) ∙ ap checkOf (c .before .before .before .before .before .before .before .before .before .before .before .enum-told .given .1), sym (c .before .before .before .before .before .before .before .before .before .before .layout-for .ensures) ∙ ap answerOf (c .before .before .before .before .before .before .before .before .l .given .1), values-length, ← c .before .before .before .before .before .at-least-one .ensures .0, ← c .before .before .before .at-least-one2 .ensures .0)
+
+pub describe-spec : {M : Type 1} → statement M
+describe-spec =
+    tie.close
+    (tie.spec
+    check-agreement-requires
+    enum-told
+    enum-known-r
+    returns
+    layout-for-requires
+    enum-known-l
+    enum-known-r-2
+    returns-2
+    cast-at-least-one
+    at-least-one-requires
+    at-least-one-requires-2
+    cast-t20
+    cast-t21
+    div-t19
+    returns-3)

@@ -1,0 +1,11 @@
+use mathlib.Core.Path.{refl}
+use Rattle.lsm_values.specs.Values.{values}
+use Rattle.lsm_directory.proofs.plain_directory.Statement.{statement}
+use Rattle.lsm_directory.proofs.plain_directory.Tie as tie
+
+returns : tie.Need-returns
+unfolding values
+returns c = λ o f. refl
+
+pub plain-directory-spec : {M : Type 1} → statement M
+plain-directory-spec = tie.close (tie.spec returns)
