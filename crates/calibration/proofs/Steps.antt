@@ -10,7 +10,7 @@ use lib.Ieee.Bits.{ofBits-toBits}
 use lib.Ieee.Compare.{differs-from-itself}
 use Rattle.lsm_format.specs.Calibration.{uncalibrated, sized, calibration, aboveNought, nought, micrometres, figure}
 use Rattle.lsm_format.specs.Calibration.{ZStep, used, absent, placeholder, tooLarge, zStep, stepBy, smallestStep, largestStep}
-use Rattle.calibration.proofs.Product.{Number, pattern-nan, micrometres-number}
+use Rattle.narrowing.proofs.Product.{Number, pattern-nan, micrometres-number}
 
 never : true ≡ false → ⊥
 never e = subst T e tt

@@ -1,4 +1,1 @@
-pub mod Code
-pub mod Figured
-pub mod Wide
 pub mod Calibrated

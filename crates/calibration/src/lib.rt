@@ -1,17 +1,14 @@
 // Voxel sizes, the Z step and the figure of its note.
-use crate::figure::Figure;
-use crate::figure::short_exponential;
-use crate::narrow::Micrometres;
-use crate::narrow::to_micrometres;
+use figure::Figure;
+use figure::short_exponential;
+use narrowing::Micrometres;
+use narrowing::to_micrometres;
 ghost use mathlib.Core.Path.{_≡_};
 ghost use mathlib.Core.List.{[]};
 ghost use Rattle.lsm_format.specs.Calibration.{calibration, aboveNought, zStep, figure};
-ghost use Rattle.calibration.specs.Code.{floatOf};
+ghost use Rattle.narrowing.specs.Code.{floatOf};
 ghost use Rattle.calibration.specs.Calibrated.{calibrationOf, stepOf, noteText};
-ghost use Rattle.calibration.specs.Figured.{Figured};
-
-pub mod figure;
-pub mod narrow;
+ghost use Rattle.figure.specs.Figured.{Figured};
 
 // What a file's Z step became, in micrometres: it is used; there is none; there is none, and a note says that the step which the
 // file states is a placeholder or too large.

@@ -2,38 +2,20 @@
 use Prim.Native.Nat.{ℕ}
 use mathlib.Core.Path.{_≡_, refl, ap, _∙_}
 use mathlib.Core.List.{List, [], _∷_}
-use mathlib.Core.Option.{Option, none, some}
-use lib.ListN.{length, getD, replicate}
+use lib.ListN.{length, getD}
 use Rattle.lsm_format.specs.Answer.{Result, accepted, refused, bind}
-use Rattle.lsm_format.specs.Code.{rowOf, Numbered}
 use Rattle.lsm_format.specs.Open as Rule
 use Rattle.lsm_format.specs.Channels.{Channel}
-use Rattle.lsm_format.specs.declared.error.Refusal.{Refusal}
-use Rattle.lsm_format.specs.declared.error.Refusal.the-variants.{Parse, Decode, Unsupported, OversizedAllocation, SceneOutOfRange, OutOfRange, TooShort}
-use Rattle.lsm_channel_colors.specs.Code.{Seen, seen, colorOf, Looked}
-use Rattle.lsm_channel_colors.specs.declared.Color.{Color}
-use Rattle.lsm_channel_colors.specs.declared.Color.the-variants.{Absent, Rgb}
+use Rattle.lsm_channel_colors.specs.Code.{Seen, seen, Looked}
 use Rattle.lsm_format.specs.Picture.{Samples, into}
 use Rattle.lsm_region.specs.Code.{shapeOf, Pictured}
 use Rattle.lsm_reader.specs.Opening.{toldOf, openedOf, OpenedAs}
 use Rattle.lsm_reader.specs.declared.open.OpenAnswer.{OpenAnswer}
-use Rattle.lsm_c.specs.Words.{describedBy}
-use Rattle.lsm_c.specs.Calls.{numberOf, padded, openWords, OpenedBy, colorWords, nameWords, channelWords, lookupBy, lookupMemoryBy, Answered, LookedUp, pictureWords, PicturedBy}
+use Rattle.description_words.specs.Words.{describedBy}
+use Rattle.answer_words.specs.Answers.{padded, openWords, channelWords, pictureWords}
+use Rattle.lsm_c.specs.Calls.{numberOf, OpenedBy, lookupBy, lookupMemoryBy, Answered, LookedUp, PicturedBy}
 
--- ---- a refusal
-
-module _ (k : ℕ) {n : List ℕ} {len : ℕ} where
-  pub row-words : (r : Refusal) → Numbered (rowOf r) n len →
-      getD n 0 0 ∷ getD n 1 0 ∷ getD n 2 0 ∷ getD n 3 0 ∷ getD n 4 0 ∷ replicate k 0 ≡ padded k (rowOf r)
-  row-words Parse h = rw (h .whole)
-  row-words Decode h = rw (h .whole)
-  row-words Unsupported h = rw (h .whole)
-  row-words (OversizedAllocation requested cap) h = rw (h .whole)
-  row-words (SceneOutOfRange scene count) h = rw (h .whole)
-  row-words (OutOfRange scene t c z) h = rw (h .whole)
-  row-words (TooShort needed) h = rw (h .whole)
-
--- its first word is its number
+-- a refusal's first word is its number
 row-number : (k : ℕ) (row : List ℕ) → getD (padded k row) 0 0 ≡ getD row 0 0
 row-number k [] = refl
 row-number k (x ∷ row) = refl
@@ -55,16 +37,6 @@ opened-by {f} {lent} h e =
 channel-number : (x : Result Channel) → getD (channelWords (seen x)) 0 0 ≡ numberOf x
 channel-number (accepted c) = refl
 channel-number (refused row) = row-number 3 row
-
--- the words of a colour and of a name, one by one
-pub channel-is : (x : Color) (n : Option ℕ) {color name : List ℕ} → color ≡ colorWords (colorOf x) → name ≡ nameWords n →
-    0 ∷ getD color 0 0 ∷ getD color 1 0 ∷ getD color 2 0 ∷ getD color 3 0 ∷ getD name 0 0 ∷ getD name 1 0 ∷ 0 ∷ []
-    ≡ channelWords (accepted (record { color = colorOf x; name = n }))
-unfolding colorWords nameWords
-channel-is Absent none a b = rw (a, b)
-channel-is Absent (some n) a b = rw (a, b)
-channel-is (Rgb r g b) none p q = rw (p, q)
-channel-is (Rgb r g b) (some n) p q = rw (p, q)
 
 module _ (f w : List ℕ) (channel : ℕ) (lent : List ℕ) where
   pub no-description : (row : List ℕ) → describedBy w ≡ refused row → Answered f w channel lent lent (refused row)

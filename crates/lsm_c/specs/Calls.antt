@@ -1,9 +1,8 @@
 -- What the C functions return and leave in the caller's memory.
-use Prim.Native.Nat.{ℕ, _-_}
+use Prim.Native.Nat.{ℕ}
 use mathlib.Core.Path.{_≡_}
-use mathlib.Core.Option.{Option, none, some}
-use mathlib.Core.List.{List, [], _∷_, _++_}
-use lib.ListN.{length, getD, replicate}
+use mathlib.Core.List.{List}
+use lib.ListN.{length, getD}
 use Rattle.lsm_format.specs.Answer.{Result, accepted, refused, bind}
 use Rattle.lsm_format.specs.Open.{openFile, openMemory}
 use Rattle.lsm_format.specs.Channels.{Channel, lookup, lookupMemory}
@@ -11,24 +10,16 @@ use Rattle.lsm_channel_colors.specs.Code.{Seen, seen}
 use Rattle.lsm_format.specs.Picture.{Samples, plane, region, into, bufferBy}
 use Rattle.lsm_format.specs.Rectangle.{Rect}
 use Rattle.lsm_region.specs.Code.{shapeOf}
-use Rattle.lsm_reader.specs.Opening.{Told, toldOf}
-use Rattle.lsm_c.specs.Words.{descriptionWords, describedBy}
+use Rattle.lsm_reader.specs.Opening.{toldOf}
+use Rattle.description_words.specs.Words.{describedBy}
+use Rattle.answer_words.specs.Answers.{openWords, channelWords, pictureWords}
 
 -- the returned number: 0, or the first of a refusal's row
 abbrev pub numberOf : {A : Type 0} → Result A → ℕ
 numberOf (accepted a) = 0
 numberOf (refused row) = getD row 0 0
 
--- a refusal's row: five words, with zeros after its values, then as many further zeros
-abbrev pub padded : ℕ → List ℕ → List ℕ
-padded n row = (row ++ replicate (5 - length row) 0) ++ replicate n 0
-
 -- ---- opening
-
--- 0, directories visited, words of the table, the description
-abbrev pub openWords : Result Told → List ℕ
-openWords (accepted t) = 0 ∷ t .visited ∷ t .words ∷ descriptionWords (t .description)
-openWords (refused row) = padded 15 row
 
 pub record OpenedBy (f lent table answer : List ℕ) (r : ℕ) : Type 0 where
   pub returned : r ≡ numberOf (openFile f (length lent))
@@ -36,20 +27,6 @@ pub record OpenedBy (f lent table answer : List ℕ) (r : ℕ) : Type 0 where
   pub memory : table ≡ openMemory f lent
 
 -- ---- a channel
-
--- whether there is a colour, then red, green, blue
-unfoldable pub colorWords : Option (List ℕ) → List ℕ
-colorWords none = 0 ∷ 0 ∷ 0 ∷ 0 ∷ []
-colorWords (some rgb) = 1 ∷ rgb
-
--- whether there is a name, then its length
-unfoldable pub nameWords : Option ℕ → List ℕ
-nameWords none = 0 ∷ 0 ∷ []
-nameWords (some n) = 1 ∷ n ∷ []
-
-abbrev pub channelWords : Result Seen → List ℕ
-channelWords (accepted s) = 0 ∷ (colorWords (s .color) ++ (nameWords (s .name) ++ 0 ∷ []))
-channelWords (refused row) = padded 3 row
 
 -- The lookup in a file with the description that these words are; no description is refused before anything else.
 unfoldable pub lookupBy : List ℕ → List ℕ → ℕ → ℕ → Result Channel
@@ -73,11 +50,6 @@ pub record LookedUp (f w : List ℕ) (channel : ℕ) (lent name answer : List �
   pub memory : name ≡ lookupMemoryBy w f channel lent
 
 -- ---- pictures
-
--- 0, rows, columns, bytes written
-abbrev pub pictureWords : Result (ℕ × ℕ × ℕ) → List ℕ
-pictureWords (accepted s) = 0 ∷ s .0 ∷ s .1 ∷ s .2 ∷ 0 ∷ []
-pictureWords (refused row) = padded 0 row
 
 -- The picture, or a rectangle of it, with the description that these words are; no description is refused before anything else.
 unfoldable pub planeBy : List ℕ → List ℕ → List ℕ → ℕ → ℕ → ℕ → ℕ → Result Samples

@@ -1,32 +1,14 @@
 // Pictures through the C interface.
-use crate::description::read_description;
+use answer_words::picture_words;
+use description_words::read_description;
 use lsm_description::DescriptionAnswer;
-use lsm_format::error::Refusal;
 use lsm_format::types::PixelRect;
 use lsm_region::PictureAnswer;
 use lsm_region::plane;
 use lsm_region::region;
-ghost use mathlib.Core.Path.{_≡_};
-ghost use Rattle.lsm_format.specs.Code.{rowOf, rectOf};
+ghost use Rattle.lsm_format.specs.Code.{rectOf};
 ghost use Rattle.lsm_region.specs.Code.{answerOf, Pictured};
-ghost use Rattle.lsm_c.specs.Calls.{padded, pictureWords, planeBy, regionBy, PicturedBy};
-
-fn picture_refusal(r: Refusal) -> [usize; 5]
-    ensures { λ a. ⌜ a ≡ padded 0 (rowOf r) ⌝ }
-{
-    let row = r.numbers();
-    let n = row.numbers;
-    [n[0], n[1], n[2], n[3], n[4]]
-}
-
-fn picture_words(a: PictureAnswer) -> [usize; 5]
-    ensures { λ r. ⌜ r ≡ pictureWords (answerOf a) ⌝ }
-{
-    match a {
-        PictureAnswer::Read(p) => [0, p.height, p.width, p.bytes, 0],
-        PictureAnswer::Refused(r) => picture_refusal(r),
-    }
-}
+ghost use Rattle.lsm_c.specs.Calls.{planeBy, regionBy, PicturedBy};
 
 // The picture with the description that these words are. No description is refused before anything else.
 fn plane_by(

@@ -1,57 +1,45 @@
 -- Laws of what the lookup's functions answer, a case each. Assumes nothing.
-use Prim.Native.Nat.{ℕ, _+_, _-_, _≤_, _<_}
+use Prim.Native.Nat.{ℕ, zero, suc, _+_, _-_, _*_, _≤_, _<_}
 use native.Mathlib.Omega.{arith}
-use mathlib.Core.Path.{_≡_, sym, ap, _∙_, subst}
+use mathlib.Core.Path.{_≡_, refl, sym, ap, _∙_, subst}
 use mathlib.Core.Option.{Option, none, some}
 use mathlib.Core.List.{List}
-use lib.IntN.{ℤ}
+use lib.IntN.{ℤ, pos, negsuc}
 use lib.ListN.{length, take, drop}
 use Rattle.lsm_format.specs.Answer.{Result, accepted, refused, bind, parse, outOfRange}
 use Rattle.lsm_format.specs.Code.{rowOf}
 use Rattle.lsm_format.specs.Numbers.{Order}
 use Rattle.lsm_format.specs.Utf8.{lossy}
 use Rattle.lsm_format.specs.Channels as Rule
-use Rattle.lsm_format.specs.Channels.{pointers, color, recordOf, trimmed, name, channelIn, lookup}
+use Rattle.lsm_format.specs.Channels.{pointers, colorAt, color, trimmed, channelIn, lookup}
 use Rattle.lsm_format.specs.declared.error.Refusal.{Refusal}
-use Rattle.lsm_format.proofs.Channels.{channel-inside, name-past, name-none, name-long, name-given, channel-unread, channel-there, lookup-outside, memory-outside, lookup-nameless, memory-nameless, lookup-named, memory-named}
+use Rattle.lsm_format.proofs.Channels.{color-pointed, channel-unread, channel-there, lookup-outside, memory-outside, lookup-nameless, memory-nameless, lookup-named, memory-named}
 use Rattle.utf8.specs.Code.{decodedOf, Decoding}
 use Rattle.utf8.specs.declared.Decoded.{Decoded}
 use Rattle.utf8.specs.declared.Decoded.the-variants.{Length, Refused}
 use Rattle.utf8.proofs.Lent.{told-length}
+use Rattle.channel_tables.specs.Parts.{pointed, spanOf, textIn, Inside, Named}
+use Rattle.channel_tables.proofs.Signed.{pointed-is}
 use Rattle.lsm_channel_colors.specs.Code.{colorOf, Looked}
-use Rattle.lsm_channel_colors.specs.Parts.{pointed, spanOf, textIn, Inside, Trimming, Named, Stating}
+use Rattle.lsm_channel_colors.specs.Parts.{Trimming, Stating}
 use Rattle.lsm_channel_colors.specs.declared.Color.{Color}
 use Rattle.lsm_channel_colors.specs.declared.Color.the-variants.{Absent as NoColor}
-use Rattle.lsm_channel_colors.specs.declared.Record.{Record}
-use Rattle.lsm_channel_colors.specs.declared.Record.the-variants.{Absent, At}
+use Rattle.channel_tables.specs.declared.Record.{Record}
+use Rattle.channel_tables.specs.declared.Record.the-variants.{Absent, At}
 use Rattle.lsm_channel_colors.specs.declared.Stated.{Stated}
-use Rattle.lsm_channel_colors.proofs.Signed.{pointed-is, no-names}
 
--- ---- where a channel's name stands: no pointer; a pointer past the end; no record; one that is too long; one that is given
+-- ---- a channel's colour: no pointer; a pointer that points
 
-pub named-nowhere : (o : Order) (f : List ℕ) (block : ℕ) (z : ℤ) (channel : ℕ) → pointed z ≡ none → Named o f block z channel none
-named-nowhere o f block z channel e = record { text = no-names o f block z channel e; inside = tt }
+pub no-colors : (f : List ℕ) (block : ℕ) (z : ℤ) (channel : ℕ) → pointed z ≡ none → none ≡ color f block z channel
+unfolding color
+no-colors f block (pos zero) channel e = refl
+no-colors f block (pos (suc n)) channel e = let z : _≡_ {A = ℕ} 0 1 = cc in absurd (omega arith)
+no-colors f block (negsuc n) channel e = refl
 
-module _ (o : Order) (f : List ℕ) (block : ℕ) (z : ℤ) (channel n : ℕ) (e : pointed z ≡ some n) where
-  pub named-past : length f < block + n → Named o f block z channel none
-  named-past h =
-      let q = pointed-is z n e in
-      record { text = rw (q .0) (name-past o f block n channel (q .1) (omega arith)); inside = tt }
-
-  pub named-none : (first : ℕ) → first ≡ block + n → recordOf o f first channel ≡ none → Named o f block z channel none
-  named-none first w r =
-      let q = pointed-is z n e in
-      record { text = rw (q .0) (name-none o f block n channel (q .1) (rw w at r)); inside = tt }
-
-  pub named-long : (first s l : ℕ) → first ≡ block + n → recordOf o f first channel ≡ some (s, l) → 1024 < l → Named o f block z channel none
-  named-long first s l w r h =
-      let q = pointed-is z n e in
-      record { text = rw (q .0) (name-long o f block n channel (q .1) s l (rw w at r) h); inside = tt }
-
-  pub named-given : (first s l : ℕ) → first ≡ block + n → recordOf o f first channel ≡ some (s, l) → l ≤ 1024 → Named o f block z channel (some (s, l))
-  named-given first s l w r h =
-      let q = pointed-is z n e in
-      record { text = rw (q .0) (name-given o f block n channel (q .1) s l (rw w at r) h); inside = channel-inside o f channel first s l r }
+pub color-is : (f : List ℕ) (block : ℕ) (z : ℤ) (channel n place : ℕ) → pointed z ≡ some n → place ≡ block + n + 4 * channel →
+    colorAt f place ≡ color f block z channel
+color-is f block z channel n place e p =
+    let q = pointed-is z n e in rw (q .0, p) (sym (color-pointed f block n channel (q .1)))
 
 -- ---- what the file states of a channel: no block; no pointers; both pointers
 

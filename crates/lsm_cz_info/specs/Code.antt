@@ -10,8 +10,6 @@ use Rattle.calibration.specs.Calibrated.{calibrationOf}
 use Rattle.lsm_cz_info.specs.declared.CzInfo.{CzInfo}
 use Rattle.lsm_cz_info.specs.declared.CzAnswer.{CzAnswer}
 use Rattle.lsm_cz_info.specs.declared.CzAnswer.the-variants.{Info, Refused}
-use Rattle.lsm_cz_info.specs.declared.LengthAnswer.{LengthAnswer}
-use Rattle.lsm_cz_info.specs.declared.LengthAnswer.the-variants.{Length, Refused as RefusedLength}
 use Rattle.lsm_cz_info.specs.declared.Extents.{Extents}
 use Rattle.lsm_cz_info.specs.declared.ExtentsAnswer.{ExtentsAnswer}
 use Rattle.lsm_cz_info.specs.declared.ExtentsAnswer.the-variants.{Extents as Stated, Refused as RefusedExtents}
@@ -41,10 +39,6 @@ czOf (Info i) = accepted (infoOf i)
 czOf (Refused r) = refused (rowOf r)
 
 -- ---- the answers of the parts
-
-abbrev pub lengthOf : LengthAnswer → Result ℕ
-lengthOf (Length n) = accepted n
-lengthOf (RefusedLength r) = refused (rowOf r)
 
 abbrev pub statedOf : Extents → Rule.Extents
 statedOf d = record { x = d .x; y = d .y; z = d .z; channels = d .channels; time = d .time }

@@ -1,6 +1,8 @@
 // The CZ-LSM-Info block: dimensions, voxel sizes, the channel block's place, positions and tiles.
 use calibration::Calibration;
 use calibration::calibrate;
+use cz_header::LengthAnswer;
+use cz_header::read_header;
 use lsm_bytes::F64Bits;
 use lsm_bytes::I32;
 use lsm_bytes::read_f64_bits;
@@ -16,16 +18,8 @@ ghost use lib.IntN.{pos};
 ghost use lib.ListN.{length};
 ghost use Rattle.lsm_format.specs.Calibration.{uncalibrated};
 ghost use Rattle.lsm_format.specs.Code.{orderOf, blockOf};
-ghost use Rattle.lsm_format.specs.CzInfo.{blockLength, header, extents, stated, voxels, place, channelBlock, shots, from, czInfo};
-ghost use Rattle.lsm_cz_info.specs.Code.{lengthOf, statedOf, extentsOf, voxelsOf, channelOf, shotsOf, czOf};
-
-// What every block starts with.
-const MAGIC: i32 = 0x0400_494C;
-
-// The magic number and the size that the block states of itself.
-const HEADER_BYTES: usize = 8;
-
-const SIZE_AT: usize = 4;
+ghost use Rattle.lsm_format.specs.CzInfo.{extents, stated, voxels, place, channelBlock, shots, from, czInfo};
+ghost use Rattle.lsm_cz_info.specs.Code.{statedOf, extentsOf, voxelsOf, channelOf, shotsOf, czOf};
 
 // The dimensions: five i32s.
 const DIM_X_AT: usize = 8;
@@ -37,8 +31,6 @@ const DIM_Z_AT: usize = 16;
 const DIM_CHANNELS_AT: usize = 20;
 
 const DIM_TIME_AT: usize = 24;
-
-const DIMENSIONS_END: usize = 28;
 
 // The three voxel sizes, f64 in metres.
 const VOXEL_X_AT: usize = 40;
@@ -87,11 +79,6 @@ pub enum CzAnswer {
     Refused(Refusal),
 }
 
-enum LengthAnswer {
-    Length(usize),
-    Refused(Refusal),
-}
-
 // The dimensions as the block states them: any of them may be negative.
 struct Extents {
     x: i32,
@@ -124,46 +111,6 @@ struct Shots {
 enum ShotsAnswer {
     Shots(Shots),
     Refused(Refusal),
-}
-
-// The smaller of what the entry declares and what the block states; a block that states no size is as long as declared.
-fn block_length(declared: usize, size: i32) -> usize
-    ensures { λ r. ⌜ r ≡ blockLength declared size ⌝ }
-{
-    if size <= 0 {
-        return declared;
-    }
-    let own = (size as u32) as usize;
-    if own < declared { own } else { declared }
-}
-
-// The block's length, once the block is known to be one.
-fn read_header(buf: &[u8], block: usize, declared: usize, e: Endian) -> LengthAnswer
-    ensures { λ r. ⌜ lengthOf r ≡ header (orderOf e) (now (buf .entry)) block declared ⌝ }
-{
-    if buf.len() < block {
-        return LengthAnswer::Refused(Refusal::Decode);
-    }
-    if declared < HEADER_BYTES {
-        return LengthAnswer::Refused(Refusal::Decode);
-    }
-    if buf.len() - block < declared {
-        return LengthAnswer::Refused(Refusal::Decode);
-    }
-    let I32::Value(magic) = read_i32(buf, block, e) else {
-        return LengthAnswer::Refused(Refusal::Parse);
-    };
-    if magic != MAGIC {
-        return LengthAnswer::Refused(Refusal::Decode);
-    }
-    let I32::Value(size) = read_i32(buf, block + SIZE_AT, e) else {
-        return LengthAnswer::Refused(Refusal::Parse);
-    };
-    let bytes = block_length(declared, size);
-    if bytes < DIMENSIONS_END {
-        return LengthAnswer::Refused(Refusal::Decode);
-    }
-    LengthAnswer::Length(bytes)
 }
 
 // `parse` reads the parts only of a block that lies in the file.

@@ -59,7 +59,7 @@ mantissa q =
       ]
     ]
 
--- "the exponent as the Rust prints it": no plus, no zero in front.
+-- The exponent as the Rust prints it: no plus, no zero in front.
 abbrev pub exponentText : ℤ → List ℕ
 exponentText (pos n) = twoDigits n
 exponentText (negsuc n) = 45 ∷ twoDigits (suc n)

@@ -1,3 +1,1 @@
-pub mod Put
-pub mod Channel
 pub mod Told

@@ -1,27 +1,23 @@
 // What is printed of a file.
-use crate::channel::put_channel_count;
-use crate::channel::put_channels;
-use crate::line::put_dims;
-use crate::line::put_kind;
-use crate::line::put_notes;
-use crate::line::put_pixel;
-use crate::line::put_refused;
-use crate::line::put_scene_count;
-use crate::line::put_scenes;
-use crate::put::put_bytes;
 use libc::STDOUT_FILENO;
 use lsm_description::Description;
 use lsm_reader::open::OpenAnswer;
 use lsm_reader::open::open_file;
+use printout_channels::put_channel_count;
+use printout_channels::put_channels;
+use printout_lines::put_dims;
+use printout_lines::put_kind;
+use printout_lines::put_refused;
+use printout_lines::put_scene_count;
+use printout_lines::put_scenes;
+use printout_sizes::put_notes;
+use printout_sizes::put_pixel;
+use printout_text::put_bytes;
 ghost use Rattle.lsm_format.specs.Printout.{text, headLines, acceptedLines, channelsOf, printout};
 ghost use Rattle.lsm_description.specs.Code.{descriptionOf};
 ghost use Rattle.lsm_reader.specs.Opening.{openedOf};
-ghost use Rattle.lsm_printout.specs.Put.{Put, Listed};
+ghost use Rattle.printout_text.specs.Put.{Put, Listed};
 ghost use Rattle.lsm_printout.specs.Told.{toldLines};
-
-pub mod channel;
-pub mod line;
-pub mod put;
 
 // The longest file that is listed.
 const MOST: usize = 65_536;

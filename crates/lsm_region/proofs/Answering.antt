@@ -6,6 +6,7 @@ use mathlib.Core.Path.{_≡_, refl, sym, ap, subst, _∙_}
 use mathlib.Core.Logic.{inl, inr}
 use mathlib.Core.Bool.{Bool, true, false}
 use mathlib.Core.List.{List, [], _++_, reverse}
+use mathlib.Core.Option.{Option, none, some}
 use lib.ListN.{length, drop}
 use Rattle.lsm_format.specs.Answer.{Result, accepted, refused, bind, need, decode, tooShort}
 use Rattle.lsm_format.specs.Numbers.{Order, little, big}
@@ -14,13 +15,14 @@ use Rattle.lsm_format.specs.Rectangle.{Rect, rectangle, isEmpty}
 use Rattle.lsm_format.specs.Sizes.{Kind, u8, u16, i16, f32, sampleSize, pictureLimit, pictureBytes, pictureSize}
 use Rattle.lsm_format.specs.Picture.{Samples, stored, inside, span, bytes, picture, each, toLittle, window, channelPicture, samplesIn, rowBytes, into, coordinate, planeStrips, wholePicture, plane, channelStrips, wholeChannel, wholeRows, windowBy, windowStrips, regionBy, regionStrips, filledRegion, region}
 use Rattle.lsm_format.proofs.Lent.{lend-room, lend-short, filled-room, filled-short}
-use Rattle.lsm_format.proofs.Picture.{held, picture-length, window-rows, window-length, window-cong, window-each, PlaneAccepted, plane-accepted, channel-room, bind-then, need-true, size-is, strips-oversized}
+use Rattle.lsm_format.proofs.Picture.{held, picture-length, window-rows, window-length, window-cong, window-each, PlaneAccepted, plane-accepted, coordinate-channel, rectangle-within, channel-room, bind-then, need-true, size-is, strips-oversized}
 use Rattle.lsm_format.proofs.Region.{size-rows, size-part, whole-bytes, region-plane, channel-even, no-bytes}
 use Rattle.lsm_region.specs.Code.{Pictured}
-use Rattle.lsm_region.specs.Parts.{Ready}
+use Rattle.lsm_region.specs.Ready.{Ready}
 use Rattle.lsm_region.specs.Cursor.{RowsIn, SampleSize}
 use Rattle.lsm_region.proofs.Filling.{flip-one}
-use Rattle.lsm_region.proofs.Judging.{whole-row}
+use Rattle.lsm_strips.specs.Parts.{planeFirst, filledFirst, regionFirst}
+use Rattle.lsm_strips.proofs.Judging.{whole-row}
 
 pub sample-size : (k : Kind) → SampleSize (sampleSize k)
 sample-size u8 = inl refl
@@ -177,19 +179,33 @@ pictured-as e p = rw e p
 -- ---- plane
 
 module _ (d : Description) (t f : List ℕ) (scene time c z : ℕ) where
-  pub plane-outside : (row : List ℕ) → coordinate d scene time c z ≡ refused row → plane d t f scene time c z ≡ refused row
-  unfolding plane bind
-  plane-outside row e = rw e
+  -- the checks, then the samples
+  plane-as : plane d t f scene time c z ≡ bind (planeFirst d t (length f) scene time c z) (λ first. accepted (samplesIn d t f (wholePicture d) first))
+  unfolding plane planeFirst bind
+  plane-as = by (coordinate d scene time c z)
+    where
+      by : (p : Result (Unit {0})) → bind p (λ _. bind (planeStrips d t (length f) scene time c z) (λ first. accepted (samplesIn d t f (wholePicture d) first)))
+          ≡ bind (bind p (λ _. planeStrips d t (length f) scene time c z)) (λ first. accepted (samplesIn d t f (wholePicture d) first))
+      by (accepted u) = refl
+      by (refused row) = refl
 
-  pub plane-unfit : (u : Unit {0}) (row : List ℕ) → coordinate d scene time c z ≡ accepted u → planeStrips d t (length f) scene time c z ≡ refused row
-      → plane d t f scene time c z ≡ refused row
-  unfolding plane bind
-  plane-unfit u row e h = rw (e, h)
+  pub plane-unfit : (row : List ℕ) → planeFirst d t (length f) scene time c z ≡ refused row → plane d t f scene time c z ≡ refused row
+  unfolding bind
+  plane-unfit row e = plane-as ∙ rw e
 
-  pub plane-fit : (u : Unit {0}) (first : ℕ) → coordinate d scene time c z ≡ accepted u → planeStrips d t (length f) scene time c z ≡ accepted first
+  pub plane-fit : (first : ℕ) → planeFirst d t (length f) scene time c z ≡ accepted first
       → plane d t f scene time c z ≡ accepted (samplesIn d t f (wholePicture d) first)
-  unfolding plane bind
-  plane-fit u first e h = rw (e, h)
+  unfolding bind
+  plane-fit first e = plane-as ∙ rw e
+
+-- what plane's checks accept can be copied
+pub ready-whole : (d : Description) (t : List ℕ) (len scene time c z first : ℕ) → planeFirst d t len scene time c z ≡ accepted first
+    → Ready d t len first (wholePicture d)
+unfolding planeFirst
+ready-whole d t len scene time c z first e =
+    bind-then (coordinate d scene time c z) _ first e
+    (λ u e₁ e₂.
+    ready-plane (wholePicture d) (plane-accepted d t len scene time c z first e₂) (coordinate-channel d scene time c z u e₁) (omega arith) (omega arith))
 
 -- ---- region
 
@@ -240,34 +256,62 @@ module _ (d : Description) (t : List ℕ) (len scene time c z first : ℕ) (r : 
       ready-plane r (plane-accepted d t len scene time c z first (sym (region-plane d t len scene time c z r n e (omega arith) (omega arith)) ∙ m)) h a b
   ready-size (refused row) e m = ready-window row e (wholeRows d t) refl m
 
-  -- what region's checks accept can be copied
-  pub ready-region : regionStrips d t len scene time c z r ≡ accepted first → Ready d t len first r
-  ready-region m = ready-size (pictureSize (d .dims .x) (d .dims .y) (d .kind)) refl m
+  ready-strips : regionStrips d t len scene time c z r ≡ accepted first → Ready d t len first r
+  ready-strips m = ready-size (pictureSize (d .dims .x) (d .dims .y) (d .kind)) refl m
+
+-- what region's checks accept can be copied
+pub ready-part : (d : Description) (t : List ℕ) (len scene time c z first : ℕ) (r : Rect) → regionFirst d t len scene time c z r ≡ accepted (some first)
+    → Ready d t len first r
+unfolding regionFirst
+ready-part d t len scene time c z first r e =
+    bind-then (coordinate d scene time c z) _ (some first) e
+    (λ u e₁ e₂.
+    bind-then (rectangle (d .dims) r) _ (some first) e₂
+    (λ v e₃ e₄.
+    let w = rectangle-within (d .dims) r v e₃ in
+    by (coordinate-channel d scene time c z u e₁) (w .0) (w .1) (isEmpty r) e₄))
+  where
+    by : c < d .dims .c → r .x + r .w ≤ d .dims .x → r .y + r .h ≤ d .dims .y → (k : Bool)
+        → filledFirst k d t len scene time c z r ≡ accepted (some first) → Ready d t len first r
+    by h a b true m = let z : _≡_ {A = ℕ} 0 1 = cc in absurd (omega arith)
+    by h a b false m =
+        bind-then (regionStrips d t len scene time c z r) _ (some first) m
+        (λ p e₁ e₂. let q : p ≡ first = cc in ready-strips d t len scene time c z first r h a b (e₁ ∙ ap accepted q))
+
+-- an empty rectangle's samples, or those of a rectangle whose picture's first strip is told
+abbrev partSamples : Description → List ℕ → List ℕ → Rect → Option ℕ → Samples
+partSamples d t f r none = record { rows = r .h; columns = r .w; bytes = [] }
+partSamples d t f r (some first) = samplesIn d t f r first
 
 module _ (d : Description) (t f : List ℕ) (scene time c z : ℕ) (r : Rect) where
-  pub filled-empty : (lent : List ℕ) → isEmpty r ≡ true → Pictured (filledRegion (isEmpty r) d t f scene time c z r) lent lent (accepted (r .h, r .w, 0))
-  filled-empty lent e = rw e (pictured-read (record { rows = r .h; columns = r .w; bytes = [] }) lent 0 refl (omega arith))
+  -- the checks, then the samples
+  region-as : region d t f scene time c z r ≡ bind (regionFirst d t (length f) scene time c z r) (λ o. accepted (partSamples d t f r o))
+  unfolding region regionFirst bind
+  region-as = by (coordinate d scene time c z) (rectangle (d .dims) r) (isEmpty r)
+    where
+      strips : (s : Result ℕ) → bind s (λ first. accepted (samplesIn d t f r first))
+          ≡ bind (bind s (λ first. accepted (some first))) (λ o. accepted (partSamples d t f r o))
+      strips (accepted first) = refl
+      strips (refused row) = refl
 
-  pub filled-unfit : (row : List ℕ) → isEmpty r ≡ false → regionStrips d t (length f) scene time c z r ≡ refused row
-      → filledRegion (isEmpty r) d t f scene time c z r ≡ refused row
+      by : (p q : Result (Unit {0})) (k : Bool) → bind p (λ _. bind q (λ _. filledRegion k d t f scene time c z r))
+          ≡ bind (bind p (λ _. bind q (λ _. filledFirst k d t (length f) scene time c z r))) (λ o. accepted (partSamples d t f r o))
+      by (refused row) q k = refl
+      by (accepted u) (refused row) k = refl
+      by (accepted u) (accepted v) true = refl
+      by (accepted u) (accepted v) false = strips (regionStrips d t (length f) scene time c z r)
+
+  pub region-unfit : (row : List ℕ) → regionFirst d t (length f) scene time c z r ≡ refused row → region d t f scene time c z r ≡ refused row
   unfolding bind
-  filled-unfit row e h = rw e (rw h)
+  region-unfit row e = region-as ∙ rw e
 
-  pub filled-fit : (first : ℕ) → isEmpty r ≡ false → regionStrips d t (length f) scene time c z r ≡ accepted first
-      → filledRegion (isEmpty r) d t f scene time c z r ≡ accepted (samplesIn d t f r first)
+  pub region-fit : (first : ℕ) → regionFirst d t (length f) scene time c z r ≡ accepted (some first)
+      → region d t f scene time c z r ≡ accepted (samplesIn d t f r first)
   unfolding bind
-  filled-fit first e h = rw e (rw h)
+  region-fit first e = region-as ∙ rw e
 
-  pub region-outside : (row : List ℕ) → coordinate d scene time c z ≡ refused row → region d t f scene time c z r ≡ refused row
-  unfolding region bind
-  region-outside row e = rw e
-
-  pub region-off : (u : Unit {0}) (row : List ℕ) → coordinate d scene time c z ≡ accepted u → rectangle (d .dims) r ≡ refused row
-      → region d t f scene time c z r ≡ refused row
-  unfolding region bind
-  region-off u row e h = rw (e, h)
-
-  pub region-within : (u v : Unit {0}) → coordinate d scene time c z ≡ accepted u → rectangle (d .dims) r ≡ accepted v
-      → region d t f scene time c z r ≡ filledRegion (isEmpty r) d t f scene time c z r
-  unfolding region bind
-  region-within u v e h = rw (e, h)
+  pub region-empty : (lent : List ℕ) → regionFirst d t (length f) scene time c z r ≡ accepted none
+      → Pictured (region d t f scene time c z r) lent lent (accepted (r .h, r .w, 0))
+  unfolding bind
+  region-empty lent e =
+      pictured-as (region-as ∙ rw e) (pictured-read (record { rows = r .h; columns = r .w; bytes = [] }) lent 0 refl (omega arith))

@@ -20,6 +20,13 @@ take-put-add a m xs ys h e =
 pub part-length : (a m : ℕ) (out : List ℕ) → a + m ≤ length out → length (take (a + m - a) (drop a out)) ≡ m
 part-length a m out h = rw add-sub-cancel-left (length-take-le m (drop a out) (rw length-drop (omega arith)))
 
+-- of what is left after a, some is left, and any part of it fits
+pub less-leaves : {a n : ℕ} → a < n → 0 < n - a
+less-leaves h = omega arith
+
+pub less-fits : {a n m : ℕ} → a < n → m ≤ n - a → a + m ≤ n
+less-fits h k = omega arith
+
 pub less-by : (was is a m r : ℕ) → is ≡ was → 0 < m → a + m ≤ was → is - (a + m) + r < was - a + r
 less-by was is a m r e h fits = omega arith
 

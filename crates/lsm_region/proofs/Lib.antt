@@ -1,4 +1,3 @@
-pub mod Judging
 pub mod Filling
 pub mod Walking
 pub mod Answering

@@ -8,7 +8,7 @@ use mathlib.Core.List.{List}
 use borrow.Rule.Slice.PartMut.{putMid}
 use lib.ListN.{length, take, drop}
 use lib.Seq.{take-all}
-use Rattle.lsm_format.specs.Picture.{offsetOf, countOf, total, place, stored, inside, span, bytes}
+use Rattle.lsm_format.specs.Picture.{offsetOf, countOf, total, stored, inside, span, bytes}
 use Rattle.lsm_format.proofs.Picture.{held, span-cong, bytes-add, bytes-moved, bytes-length, bytes-run, tile, place-in, place-past, total-step, total-none, inside-head}
 use Rattle.lsm_region.specs.Cursor.{Stands, RowsIn}
 use Rattle.lsm_region.proofs.Filling.{take-put-add}

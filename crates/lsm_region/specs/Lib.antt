@@ -1,3 +1,3 @@
 pub mod Code
-pub mod Parts
+pub mod Ready
 pub mod Cursor

@@ -7,14 +7,13 @@ ghost use mathlib.Core.Path.{_≡_};
 ghost use mathlib.Core.Bool.{true};
 ghost use mathlib.Core.List.{reverse};
 ghost use Prim.Native.Nat.{_+_, _*_, _-_, _≤_, _<_};
-ghost use lib.ListN.{length};
+ghost use lib.ListN.{length, getD};
 ghost use Rattle.lsm_format.specs.Picture.{total, stored, inside, span, bytes, window, channelPicture};
 ghost use Rattle.lsm_format.specs.Code.{rectOf};
 ghost use Rattle.lsm_format.specs.Sizes.{pictureBytes};
 ghost use Rattle.lsm_description.specs.Code.{descriptionOf};
-ghost use Rattle.lsm_format.proofs.Picture.{held};
 ghost use Rattle.lsm_region.specs.Cursor.{Stands, RowsIn, SampleSize};
-ghost use Rattle.lsm_region.specs.Parts.{Ready};
+ghost use Rattle.lsm_region.specs.Ready.{Ready};
 
 // Where a walk over the strips stands: a strip, and how many bytes past its start; these may lead into later strips.
 pub struct Cursor {
@@ -189,7 +188,7 @@ fn flip(a: &mut [u8])
 fn turn(out: &mut [u8], s: usize, m: usize)
     requires { ⌜ length (now out) ≡ m * s ⌝ }
     requires { ⌜ SampleSize s ⌝ }
-    ensures { λ r. ⌜ now (out .exit) ≡ span 0 m (λ q. reverse (bytes (held (now (out .entry))) (q * s) s)) ⌝ }
+    ensures { λ r. ⌜ now (out .exit) ≡ span 0 m (λ q. reverse (bytes (λ k. getD (now (out .entry)) k 0) (q * s) s)) ⌝ }
 {
     let mut q = 0;
     while q < m {

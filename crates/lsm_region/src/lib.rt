@@ -1,29 +1,21 @@
 // Pictures and rectangles of them, read from the strips of a file.
-mod checks;
 mod copier;
-mod pages;
-mod strips;
 
-use crate::checks::checked_place;
-use crate::checks::plane_strips;
-use crate::checks::region_strips;
 use crate::copier::fill;
-use crate::pages::First;
 use lsm_description::Description;
-use lsm_format::error::Check;
 use lsm_format::error::Refusal;
 use lsm_format::types::PixelRect;
-use lsm_format::types::checked_rectangle;
-ghost use mathlib.Core.Path.{_≡_};
+use lsm_strips::First;
+use lsm_strips::Part;
+use lsm_strips::first_of_plane;
+use lsm_strips::first_of_region;
 ghost use lib.ListN.{length};
 ghost use Rattle.lsm_format.specs.Answer.{accepted};
 ghost use Rattle.lsm_format.specs.Code.{rectOf};
 ghost use Rattle.lsm_format.specs.Picture as Rule;
-ghost use Rattle.lsm_format.specs.Rectangle.{isEmpty, rectangle};
-ghost use Prim.Native.Nat.{_<_};
 ghost use Rattle.lsm_description.specs.Code.{descriptionOf};
 ghost use Rattle.lsm_region.specs.Code.{answerOf, Pictured};
-ghost use Rattle.lsm_region.specs.Parts.{Ready};
+ghost use Rattle.lsm_region.specs.Ready.{Ready};
 
 // The rows and columns of what was read, and how many bytes were written.
 pub struct Picture {
@@ -80,48 +72,16 @@ pub fn plane(
     ensures { λ r. ⌜ Pictured (Rule.plane (descriptionOf d) (now (table .entry)) (now (buf .entry)) scene t c z) (now (out .entry)) (now (out .exit)) (answerOf r) ⌝ }
 {
     let dims = d.dims;
-    match checked_place(d, scene, t, c, z) {
-        Check::Accepted => match plane_strips(d, table, buf.len(), scene, t, c, z) {
-            First::At(first) => {
-                let whole = PixelRect {
-                    x: 0,
-                    y: 0,
-                    w: dims.x,
-                    h: dims.y,
-                };
-                deliver(buf, d, table, first, whole, out)
-            }
-            First::Refused(strips) => PictureAnswer::Refused(strips),
-        },
-        Check::Refused(place) => PictureAnswer::Refused(place),
-    }
-}
-
-// A rectangle that lies in the picture. An empty one asks nothing of the strips.
-fn part_of(
-    buf: &[u8],
-    d: Description,
-    table: &[usize],
-    scene: usize,
-    t: usize,
-    c: usize,
-    z: usize,
-    rect: PixelRect,
-    out: &mut [u8],
-) -> PictureAnswer
-    requires { ⌜ c < descriptionOf d .dims .c ⌝ }
-    requires { ⌜ rectangle (descriptionOf d .dims) (rectOf rect) ≡ accepted tt ⌝ }
-    ensures { λ r. ⌜ Pictured (Rule.filledRegion (isEmpty (rectOf rect)) (descriptionOf d) (now (table .entry)) (now (buf .entry)) scene t c z (rectOf rect)) (now (out .entry)) (now (out .exit)) (answerOf r) ⌝ }
-{
-    if rect.is_empty() {
-        return PictureAnswer::Read(Picture {
-            height: rect.h,
-            width: rect.w,
-            bytes: 0,
-        });
-    }
-    match region_strips(d, table, buf.len(), scene, t, c, z, rect) {
-        First::At(first) => deliver(buf, d, table, first, rect, out),
+    match first_of_plane(d, table, buf.len(), scene, t, c, z) {
+        First::At(first) => {
+            let whole = PixelRect {
+                x: 0,
+                y: 0,
+                w: dims.x,
+                h: dims.y,
+            };
+            deliver(buf, d, table, first, whole, out)
+        }
         First::Refused(r) => PictureAnswer::Refused(r),
     }
 }
@@ -141,12 +101,13 @@ pub fn region(
 ) -> PictureAnswer
     ensures { λ r. ⌜ Pictured (Rule.region (descriptionOf d) (now (table .entry)) (now (buf .entry)) scene t c z (rectOf rect)) (now (out .entry)) (now (out .exit)) (answerOf r) ⌝ }
 {
-    let dims = d.dims;
-    match checked_place(d, scene, t, c, z) {
-        Check::Accepted => match checked_rectangle(dims, rect) {
-            Check::Accepted => part_of(buf, d, table, scene, t, c, z, rect, out),
-            Check::Refused(outside) => PictureAnswer::Refused(outside),
-        },
-        Check::Refused(coordinate) => PictureAnswer::Refused(coordinate),
+    match first_of_region(d, table, buf.len(), scene, t, c, z, rect) {
+        Part::Empty => PictureAnswer::Read(Picture {
+            height: rect.h,
+            width: rect.w,
+            bytes: 0,
+        }),
+        Part::At(first) => deliver(buf, d, table, first, rect, out),
+        Part::Refused(r) => PictureAnswer::Refused(r),
     }
 }

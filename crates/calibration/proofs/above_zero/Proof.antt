@@ -1,5 +1,5 @@
 -- `calibration::above_zero` meets its contract: a NaN is not above 0. Assumes nothing.
-use Rattle.calibration.proofs.Product.{taken}
+use Rattle.narrowing.proofs.Product.{taken}
 use Rattle.calibration.proofs.Steps.{above-nan, above-is}
 use Rattle.calibration.proofs.above_zero.Statement.{statement}
 use Rattle.calibration.proofs.above_zero.Tie as tie

@@ -2,7 +2,7 @@
 use mathlib.Core.Path.{sym, ap, _∙_}
 use borrow.Author.Tests.{not-true, not-false}
 use Rattle.lsm_format.specs.Calibration.{zStep}
-use Rattle.calibration.specs.Code.{floatOf}
+use Rattle.narrowing.specs.Code.{floatOf}
 use Rattle.calibration.proofs.Steps.{above-number, no-x, no-y, sized-is}
 use borrow.Author.Needs.{needs}
 use Rattle.calibration.proofs.calibrate.Statement.{statement}

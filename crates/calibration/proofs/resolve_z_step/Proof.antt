@@ -1,7 +1,7 @@
 -- `calibration::resolve_z_step` meets its contract. Assumes nothing.
 use mathlib.Core.Path.{sym, ap, _∙_}
 use Rattle.lsm_format.specs.Calibration.{zStep}
-use Rattle.calibration.specs.Code.{floatOf}
+use Rattle.narrowing.specs.Code.{floatOf}
 use Rattle.calibration.proofs.Steps.{step-nan}
 use borrow.Author.Needs.{needs}
 use Rattle.calibration.proofs.resolve_z_step.Statement.{statement}

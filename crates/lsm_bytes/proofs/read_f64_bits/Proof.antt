@@ -1,4 +1,5 @@
 use Rattle.lsm_format.proofs.Numbers.{number-past, number-is}
+use Rattle.lsm_bytes.proofs.Eight.{eight-little, eight-big}
 use native.Mathlib.Omega.{arith}
 use mathlib.Core.Path.{sym}
 use borrow.Author.Needs.{needs}
@@ -92,16 +93,18 @@ add-t28 c = search needs
 returns-3 : tie.Need-returns-3
 returns-3 c =
     let q = c .before .before in
+    let p = q .before .before .before .before .before in
+    let a = p .before .before .before .before .before .before .before .before .args in
     let e = c .enum-told .given .1 in
-    let first = q .before .before .before .before .before .quad .ensures in
-    number-is _ _ _ _ _ (omega arith) (rw e (omega (arith, rw e at (q .quad2 .ensures), rw e at first)))
+    number-is _ _ _ _ _ (omega arith) (rw e (eight-little (a .buf .now) (a .off) (rw e at (p .quad .ensures)) (rw e at (q .quad2 .ensures))))
 
 returns-4 : tie.Need-returns-4
 returns-4 c =
     let q = c .before .before in
+    let p = q .before .before .before .before .before in
+    let a = p .before .before .before .before .before .before .before .before .args in
     let e = c .enum-told2 .given .1 in
-    let first = q .before .before .before .before .before .quad .ensures in
-    number-is _ _ _ _ _ (omega arith) (rw e (omega (arith, rw e at (q .quad2 .ensures), rw e at first)))
+    number-is _ _ _ _ _ (omega arith) (rw e (eight-big (a .buf .now) (a .off) (rw e at (p .quad .ensures)) (rw e at (q .quad2 .ensures))))
 
 pub read-f64-bits-spec : {M : Type 1} → statement M
 read-f64-bits-spec =

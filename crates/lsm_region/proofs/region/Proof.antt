@@ -2,72 +2,49 @@
 use borrow.Author.Needs.{needs}
 use Rattle.lsm_region.proofs.region.Statement.{statement}
 use Rattle.lsm_region.proofs.region.Tie as tie
-use mathlib.Core.Path.{_≡_, sym, ap, _∙_}
-use Rattle.lsm_format.specs.Answer.{accepted}
-use Rattle.lsm_format.specs.Code.{checkOf}
-use Rattle.lsm_format.specs.Picture.{coordinate}
-use Rattle.lsm_format.proofs.Picture.{coordinate-channel}
-use Rattle.lsm_description.specs.Code.{descriptionOf}
-use Rattle.lsm_region.proofs.Answering.{pictured-as, pictured-refused, region-outside, region-off, region-within}
+use mathlib.Core.Path.{sym, ap, _∙_}
+use Rattle.lsm_strips.specs.Parts.{partOf}
+use Rattle.lsm_region.proofs.Answering.{ready-part, pictured-as, pictured-refused, region-unfit, region-fit, region-empty}
 
-placed : (c : tie.After-enum-told)
-    → coordinate (descriptionOf (c .before .before .before .before .before .before .before .args .d)) (c .before .before .before .before .before .before .before .args .scene) (c .before .before .before .before .before .before .before .args .t) (c .before .before .before .before .before .before .before .args .c) (c .before .before .before .before .before .before .before .args .z)
-    ≡ accepted tt
-placed c = sym (c .before .before .checked-place .ensures) ∙ ap checkOf (c .enum-told .given .1)
-
-checked-place-requires : tie.Need-checked-place-requires
-checked-place-requires c κs = search needs
+first-of-region-requires : tie.Need-first-of-region-requires
+first-of-region-requires c κs = search needs
 
 enum-told : tie.Need-enum-told
 enum-told c = search needs
 
-checked-rectangle-requires : tie.Need-checked-rectangle-requires
-checked-rectangle-requires c κs = search needs
+enum-known-first : tie.Need-enum-known-first
+enum-known-first c = search needs
 
-enum-told-2 : tie.Need-enum-told-2
-enum-told-2 c = search needs
+deliver-requires : tie.Need-deliver-requires
+deliver-requires c κs = ready-part _ _ _ _ _ _ _ _ _ (sym (c .before .before .before .before .first-of-region .ensures) ∙ ap partOf (c .before .before .first .given .1))
 
-part-of-requires : tie.Need-part-of-requires
-part-of-requires c κs =
-    let k = c .before .before .before in
-    (coordinate-channel _ _ _ _ _ _ (placed (k .before)), sym (k .checked-rectangle .ensures) ∙ ap checkOf (c .before .enum-told2 .given .1))
+enum-known-r : tie.Need-enum-known-r
+enum-known-r c = search needs
 
-enum-known-outside : tie.Need-enum-known-outside
-enum-known-outside c = search needs
-
-enum-known-coordinate : tie.Need-enum-known-coordinate
-enum-known-coordinate c = search needs
+returns : tie.Need-returns
+returns c = region-empty _ _ _ _ _ _ _ _ _ (sym (c .before .before .first-of-region .ensures) ∙ ap partOf (c .enum-told .given .1))
 
 same-length : tie.Need-same-length
 same-length c = search needs
 
-returns : tie.Need-returns
-returns c =
-    let e = c .before .before .before .before in
-    let k = e .before .before in
-    pictured-as (region-within _ _ _ _ _ _ _ _ _ _ (placed (k .before)) (sym (k .checked-rectangle .ensures) ∙ ap checkOf (e .enum-told2 .given .1))) (c .before .before .part-of .ensures)
-
 returns-2 : tie.Need-returns-2
 returns-2 c =
-    let k = c .before .before .before in
-    pictured-refused _ _ _ (region-off _ _ _ _ _ _ _ _ _ _ (placed (k .before)) (sym (k .checked-rectangle .ensures) ∙ ap checkOf (c .before .outside .given .1)))
+    let p = c .before .before .before .before .before in
+    pictured-as (region-fit _ _ _ _ _ _ _ _ _ (sym (p .before .before .first-of-region .ensures) ∙ ap partOf (p .first .given .1))) (c .before .before .deliver .ensures)
 
 returns-3 : tie.Need-returns-3
-returns-3 c =
-    pictured-refused _ _ _ (region-outside _ _ _ _ _ _ _ _ _ (sym (c .before .before .before .checked-place .ensures) ∙ ap checkOf (c .before .coordinate .given .1)))
+returns-3 c = pictured-refused _ _ _ (region-unfit _ _ _ _ _ _ _ _ _ (sym (c .before .before .before .first-of-region .ensures) ∙ ap partOf (c .before .r .given .1)))
 
 pub region-spec : {M : Type 1} → statement M
 region-spec =
     tie.close
     (tie.spec
-    checked-place-requires
+    first-of-region-requires
     enum-told
-    checked-rectangle-requires
-    enum-told-2
-    part-of-requires
-    enum-known-outside
-    enum-known-coordinate
-    same-length
+    enum-known-first
+    deliver-requires
+    enum-known-r
     returns
+    same-length
     returns-2
     returns-3)

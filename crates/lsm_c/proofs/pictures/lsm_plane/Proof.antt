@@ -2,7 +2,6 @@ use Rattle.lsm_c.proofs.Calls.{pictured-by}
 use borrow.Author.Needs.{needs}
 use Rattle.lsm_c.proofs.pictures.lsm_plane.Statement.{statement}
 use Rattle.lsm_c.proofs.pictures.lsm_plane.Tie as tie
-use Rattle.lsm_c.proofs.pictures.lsm_plane.Reads as reads
 
 plane-by-requires : tie.Need-plane-by-requires
 plane-by-requires c κs = search needs

@@ -2,7 +2,6 @@ use Rattle.lsm_c.proofs.Calls.{pictured-by}
 use borrow.Author.Needs.{needs}
 use Rattle.lsm_c.proofs.pictures.lsm_region.Statement.{statement}
 use Rattle.lsm_c.proofs.pictures.lsm_region.Tie as tie
-use Rattle.lsm_c.proofs.pictures.lsm_region.Reads as reads
 
 region-by-requires : tie.Need-region-by-requires
 region-by-requires c κs = search needs

@@ -7,10 +7,12 @@ use native.Mathlib.Nat.{add-assoc, add-zero}
 use mathlib.Core.Path.{_≡_, refl, sym, _∙_}
 use mathlib.Core.Bool.{true}
 use lib.ListN.{length, take}
+use mir.Syntax.{w64}
+use mir.Val.{Fits}
 use Rattle.lsm_format.specs.Picture.{offsetOf, countOf, stored, inside, span, bytes}
 use Rattle.lsm_format.proofs.Picture.{inside-head}
 use Rattle.lsm_region.specs.Cursor.{Stands}
-use Rattle.lsm_region.proofs.Filling.{less-by}
+use Rattle.lsm_region.proofs.Filling.{less-by, less-fits, less-leaves}
 use Rattle.lsm_region.proofs.Walking.{stands-start, stands-as, stands-past, stands-on, stands-more, run-step, run-done}
 use borrow.Author.Needs.{needs}
 
@@ -32,6 +34,22 @@ lies : (c : tie.In-loop Inv-loop μ-loop)
     ≤ length (c .before .before .before .before .before .args .file .now))
     × (inside (c .before .before .before .before .before .args .table .now) (length (c .before .before .before .before .before .args .file .now)) (c .before .loop .i + 1) (c .before .before .before .before .before .args .end - c .before .loop .i - 1) ≡ true)
 lies c = inside-head _ _ _ _ (omega (arith, more c)) (c .before .loop .inv .3)
+
+-- what a turn copies: there is room for it, it is in the strip, and it is something
+copied : (c : tie.After-less Inv-loop μ-loop)
+    → (c .before .before .before .before .loop .at + c .less .result ≤ length (c .before .before .before .before .loop .out))
+    × (c .before .before .before .before .loop .into + c .less .result
+    ≤ countOf (c .before .before .before .before .before .before .before .before .args .table .now) (c .before .before .before .before .loop .i))
+    × (0 < c .less .result)
+copied c =
+    let at = c .before .before .before .loop-test .taken in
+    let into = c .before .if1 .left in
+    let m = c .less .ensures in
+    (less-fits at (m .0 .1), less-fits into (m .0 .0), m .1 (less-leaves into) (less-leaves at))
+
+-- and where it ends is a number of the machine
+reached : (c : tie.After-less Inv-loop μ-loop) → Fits w64 (c .before .before .before .before .loop .at + c .less .result)
+reached c = omega (arith, copied c .0)
 
 loop-holds : tie.Need-loop-holds Inv-loop μ-loop
 unfolding bytes span
@@ -113,22 +131,24 @@ add-into : tie.Need-add-into Inv-loop μ-loop
 add-into c = omega (arith, lies (c .before .before .before .before .before .before .before .before .before) .0)
 
 add-at : tie.Need-add-at Inv-loop μ-loop
-add-at c = search needs
+add-at c = reached (c .before .before .before .before .before .before)
 
 loop-less-2 : tie.Need-loop-less-2 Inv-loop μ-loop
 loop-less-2 c =
-    less-by _ _ _ _ _ (c .before .out .given .1) (c .before .before .before .before .before .before .less .ensures .1 (omega arith) (omega arith)) (omega arith)
+    let m = copied (c .before .before .before .before .before .before) in
+    less-by _ _ _ _ _ (c .before .out .given .1) (m .2) (m .0)
 
 loop-again-2 : tie.Need-loop-again-2 Inv-loop μ-loop
 loop-again-2 c =
     let t = c .before .before .before .before .before .before .before .before .before in
     let i = t .before .loop .inv in
-    let l = c .before .out .given .1 in (
-      omega arith,
+    let l = c .before .out .given .1 in
+    let m = copied (c .before .before .before .before .before .before) in (
+      rw l (m .0),
       l ∙ i .1,
       stands-as (add-assoc _ _ _) refl (stands-on _ (i .2)),
       i .3,
-      run-step _ _ _ _ _ _ (i .2) (more t) (lies t .0) (omega arith) (omega arith) (c .before .before .copy .ensures) (i .4),
+      run-step _ _ _ _ _ _ (i .2) (more t) (lies t .0) (m .1) (m .0) (c .before .before .copy .ensures) (i .4),
     )
 
 same-length : tie.Need-same-length Inv-loop μ-loop

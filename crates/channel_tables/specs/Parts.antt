@@ -1,0 +1,54 @@
+-- What the functions answer, in the definitions' terms.
+use Prim.Native.Nat.{ℕ, zero, suc, _+_, _≤_}
+use mathlib.Core.Path.{_≡_}
+use mathlib.Core.Option.{Option, none, some}
+use mathlib.Core.List.{List}
+use lib.IntN.{ℤ, pos, negsuc}
+use lib.ListN.{length, take, drop}
+use Rattle.lsm_format.specs.Answer.{Result, accepted, refused, parse}
+use Rattle.lsm_format.specs.Channels.{trimmed, name}
+use Rattle.lsm_format.specs.Numbers.{Order}
+use Rattle.lsm_format.specs.Utf8.{lossy}
+use Rattle.channel_tables.specs.declared.Count.{Count}
+use Rattle.channel_tables.specs.declared.Count.the-variants.{Value, Nothing}
+use Rattle.channel_tables.specs.declared.Pointers.{Pointers}
+use Rattle.channel_tables.specs.declared.Pointers.the-variants.{Absent as NoPointers, At as PointersAt}
+use Rattle.channel_tables.specs.declared.Record.{Record}
+use Rattle.channel_tables.specs.declared.Record.the-variants.{Absent, At}
+
+-- A length as the file states it, and a pointer: "a negative length" ends the names, "a pointer ≤ 0 means none of that sort".
+abbrev pub natural : ℤ → Option ℕ
+natural (pos n) = some n
+natural (negsuc n) = none
+
+abbrev pub pointed : ℤ → Option ℕ
+pointed (pos zero) = none
+pointed (pos (suc n)) = some (suc n)
+pointed (negsuc n) = none
+
+abbrev pub countOf : Count → Option ℕ
+countOf (Value n) = some n
+countOf Nothing = none
+
+abbrev pub pointersOf : Pointers → Result (ℤ × ℤ)
+pointersOf (PointersAt colors names) = accepted (colors, names)
+pointersOf NoPointers = refused parse
+
+-- Where a name's bytes start and how many they are.
+abbrev pub spanOf : Record → Option (ℕ × ℕ)
+spanOf (At start len) = some (start, len)
+spanOf Absent = none
+
+-- The text of the bytes, and that they are in the file.
+abbrev pub textIn : List ℕ → Option (ℕ × ℕ) → Option (List ℕ)
+textIn f none = none
+textIn f (some r) = some (lossy (trimmed (take (r .1) (drop (r .0) f))))
+
+abbrev pub Inside : List ℕ → Option (ℕ × ℕ) → Type 0
+Inside f none = Unit {0}
+Inside f (some r) = r .0 + r .1 ≤ length f
+
+-- The bytes that a channel's name is made of.
+pub record Named (o : Order) (f : List ℕ) (block : ℕ) (names : ℤ) (channel : ℕ) (r : Option (ℕ × ℕ)) : Type 0 where
+  pub text : textIn f r ≡ name o f block names channel
+  pub inside : Inside f r

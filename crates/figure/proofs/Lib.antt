@@ -1,0 +1,4 @@
+pub mod Limbs
+pub mod Powers
+pub mod Texts
+pub mod Fractions

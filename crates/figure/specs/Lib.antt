@@ -1,0 +1,2 @@
+pub mod Figured
+pub mod Wide

@@ -1,0 +1,19 @@
+-- What makes a rectangle ready to be copied.
+use Prim.Native.Nat.{ℕ, _+_, _*_, _^_, _≤_, _<_}
+use mathlib.Core.Path.{_≡_}
+use mathlib.Core.Bool.{true}
+use mathlib.Core.List.{List}
+use lib.ListN.{length}
+use Rattle.lsm_format.specs.Open.{Description}
+use Rattle.lsm_format.specs.Rectangle.{Rect}
+use Rattle.lsm_format.specs.Sizes.{pictureBytes}
+use Rattle.lsm_format.specs.Picture.{total, inside, rowBytes}
+
+-- All that copying a rectangle asks for. A row's bytes fit the machine; a place in the joined strips need not.
+pub record Ready (d : Description) (t : List ℕ) (len first : ℕ) (r : Rect) : Type 0 where
+  pub words : 2 * (first + d .stripsPerChannel) ≤ length t
+  pub across : r .x + r .w ≤ d .dims .x
+  pub size : pictureBytes (r .w) (r .h) (d .kind) < 2 ^ 64
+  pub line : 0 < r .h → rowBytes d < 2 ^ 64
+  pub held : (r .y + r .h) * rowBytes d ≤ total t first (d .stripsPerChannel)
+  pub within : inside t len first (d .stripsPerChannel) ≡ true

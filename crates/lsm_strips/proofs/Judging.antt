@@ -1,0 +1,352 @@
+-- Laws of what is asked of a channel's strips, a case each. Assumes nothing.
+use Prim.Native.Nat.{ℕ, zero, suc, _+_, _-_, _*_, _/_, _%_, _^_, _<_, _≤_}
+use native.Mathlib.Nat.{not-suc-le-zero, suc-mul, mul-le-mul-right, le-div-iff-mul-le, div-lt-iff-lt-mul}
+use native.Mathlib.Numerals.{add-one}
+use native.Mathlib.Omega.{arith}
+use mathlib.Core.Path.{_≡_, refl, sym, ap, ap₂, _∙_}
+use mathlib.Core.Bool.{Bool, true, false, not, _&&_, and-false}
+use mathlib.Core.Option.{none, some}
+use mathlib.Core.List.{List}
+use lib.Dec.{eqb, ltb, leb}
+use lib.ListN.{length}
+use borrow.Author.Tests.{eq-eqb, ne-eqb, eqb-true, eqb-false, ltb-true, ltb-false, lt-ltb, le-ltb, le-leb, lt-leb, leb-true, leb-false, not-true}
+use Rattle.lsm_format.specs.Answer.{accepted, refused, bind, need, decode, sceneOutOfRange}
+use Rattle.lsm_format.specs.Words.{word}
+use Rattle.lsm_format.specs.Sizes.{pictureSize}
+use Rattle.lsm_format.specs.Open.{Description}
+use Rattle.lsm_format.specs.Picture.{offsetOf, countOf, total, inside, wholeStrips, rowsIn, stripsPerPage, hasPage, firstStrip, channelStrips, coordinate, planeStrips, rowBytes, wholeChannel, wholeChannels, wholePages, wholeRows, windowBy, windowStrips, regionStrips}
+use Rattle.lsm_format.specs.Rectangle.{Rect, coordinates}
+use Rattle.lsm_format.proofs.Words.{word-some, word-none}
+use Rattle.lsm_format.proofs.Picture.{total-step, inside-none, inside-past, inside-next, page-there, page-missing, strips-oversized, strips-judged}
+use Rattle.lsm_strips.specs.Parts.{made, wholeRowsOf, pageIn, wholePage, rowStrips}
+use Rattle.lsm_format.proofs.Accepting.{both-hold}
+
+-- ---- tests of equality
+
+same-by : (a b c d : ℕ) (t : Bool) → eqb c d ≡ t → (a ≡ b → c ≡ d) → (c ≡ d → a ≡ b) → eqb a b ≡ eqb c d
+same-by a b c d true e there back = eq-eqb a b (back (eqb-true c d e)) ∙ sym e
+same-by a b c d false e there back = ne-eqb a b (λ h. eqb-false c d e (there h)) ∙ sym e
+
+-- two pairs that are equal together
+pub same-test : (a b c d : ℕ) → (a ≡ b → c ≡ d) → (c ≡ d → a ≡ b) → eqb a b ≡ eqb c d
+same-test a b c d there back = same-by a b c d (eqb c d) refl there back
+
+-- a strip's end by what is left of the file
+pub ends-by : (offset count len : ℕ) → count ≤ len → leb offset (len - count) ≡ leb (offset + count) len
+ends-by offset count len h = by (leb offset (len - count)) refl
+  where
+    by : (b : Bool) → leb offset (len - count) ≡ b → b ≡ leb (offset + count) len
+    by true e = sym (le-leb (offset + count) len (omega (arith, leb-true offset (len - count) e)))
+    by false e = sym (lt-leb (offset + count) len (omega (arith, leb-false offset (len - count) e)))
+
+pub ends-past : (offset count len : ℕ) → len < count → false ≡ leb (offset + count) len
+ends-past offset count len h = sym (lt-leb (offset + count) len (omega arith))
+
+turned : (a b : ℕ) → eqb a b ≡ eqb b a
+turned a b = same-test a b b a sym sym
+
+counted-down : (a c size : ℕ) → c ≤ size → eqb (c + a) size ≡ eqb a (size - c)
+counted-down a c size h = same-test (c + a) size a (size - c) (λ e. omega arith) (λ e. omega arith)
+
+-- ---- the strips' bytes
+
+pub made-none : (t : List ℕ) (len i n size : ℕ) → n ≤ 0 → eqb size 0 ≡ made t len i n size
+unfolding made inside total
+made-none t len i zero size h = turned size 0
+made-none t len i (suc n) size h = absurd (not-suc-le-zero h)
+
+module _ (t : List ℕ) (len i n size : ℕ) (any : 0 < n) where
+  pub made-past : len < offsetOf t i + countOf t i → false ≡ made t len i n size
+  unfolding made
+  made-past h = sym (ap (λ (b : Bool). b && eqb (total t i n) size) (inside-past t len i n any h))
+
+  pub made-over : size < countOf t i → false ≡ made t len i n size
+  unfolding made
+  made-over h =
+      sym (ap (λ (b : Bool). inside t len i n && b) (ne-eqb (total t i n) size (λ e. omega (arith, total-step t i n any)))
+      ∙ and-false (inside t len i n))
+
+  pub made-next : offsetOf t i + countOf t i ≤ len → countOf t i ≤ size → made t len i n size ≡ made t len (i + 1) (n - 1) (size - countOf t i)
+  unfolding made
+  made-next h u =
+      ap₂ (λ (a b : Bool). a && b) (inside-next t len i n any h)
+      (ap (λ (k : ℕ). eqb k size) (total-step t i n any) ∙ counted-down (total t (i + 1) (n - 1)) (countOf t i) size u)
+
+-- ---- the strips' rows
+
+whole-odd : (row : ℕ) (t : List ℕ) (i n : ℕ) → 0 < n → (countOf t i % row ≡ 0 → ⊥) → wholeStrips row t i n ≡ false
+unfolding wholeStrips
+whole-odd row t i zero any h = absurd (not-suc-le-zero any)
+whole-odd row t i (suc n) any h = rw (ne-eqb (countOf t i % row) 0 h)
+
+whole-next : (row : ℕ) (t : List ℕ) (i n : ℕ) → 0 < n → countOf t i % row ≡ 0 → wholeStrips row t i n ≡ wholeStrips row t (i + 1) (n - 1)
+unfolding wholeStrips
+whole-next row t i zero any h = absurd (not-suc-le-zero any)
+whole-next row t i (suc n) any h =
+    let q : suc n - 1 ≡ n = omega arith in
+    rw (eq-eqb (countOf t i % row) 0 h, q)
+
+rows-step : (row : ℕ) (t : List ℕ) (i n : ℕ) → 0 < n → rowsIn row t i n ≡ countOf t i / row + rowsIn row t (i + 1) (n - 1)
+unfolding rowsIn
+rows-step row t i zero any = absurd (not-suc-le-zero any)
+rows-step row t i (suc n) any =
+    let q : suc n - 1 ≡ n = omega arith in
+    rw q
+
+pub rows-none : (row : ℕ) (t : List ℕ) (i n height : ℕ) → n ≤ 0 → eqb height 0 ≡ wholeRowsOf row t i n height
+unfolding wholeRowsOf wholeStrips rowsIn
+rows-none row t i zero height h = turned height 0
+rows-none row t i (suc n) height h = absurd (not-suc-le-zero h)
+
+module _ (row : ℕ) (t : List ℕ) (i n height : ℕ) (any : 0 < n) where
+  pub rows-odd : (countOf t i % row ≡ 0 → ⊥) → false ≡ wholeRowsOf row t i n height
+  unfolding wholeRowsOf
+  rows-odd h = sym (ap (λ (b : Bool). b && eqb (rowsIn row t i n) height) (whole-odd row t i n any h))
+
+  pub rows-over : height < countOf t i / row → false ≡ wholeRowsOf row t i n height
+  unfolding wholeRowsOf
+  rows-over h =
+      sym (ap (λ (b : Bool). wholeStrips row t i n && b) (ne-eqb (rowsIn row t i n) height (λ e. omega (arith, rows-step row t i n any)))
+      ∙ and-false (wholeStrips row t i n))
+
+  pub rows-next : countOf t i % row ≡ 0 → countOf t i / row ≤ height
+      → wholeRowsOf row t i n height ≡ wholeRowsOf row t (i + 1) (n - 1) (height - countOf t i / row)
+  unfolding wholeRowsOf
+  rows-next h u =
+      ap₂ (λ (a b : Bool). a && b) (whole-next row t i n any h)
+      (ap (λ (k : ℕ). eqb k height) (rows-step row t i n any) ∙ counted-down (rowsIn row t (i + 1) (n - 1)) (countOf t i / row) height u)
+
+pub inside-all : (t : List ℕ) (len i n : ℕ) → n ≤ 0 → inside t len i n ≡ true
+inside-all t len i zero h = inside-none t len i
+inside-all t len i (suc n) h = absurd (not-suc-le-zero h)
+
+-- ---- pages
+
+pub page-none : (strips words page : ℕ) → strips ≡ 0 → false ≡ pageIn strips words page
+page-none strips words page e = rw (eq-eqb strips 0 e)
+
+page-by : (strips words page : ℕ) (b : Bool) → ltb page (words / 2 / strips) ≡ b → 0 < strips → b ≡ leb (2 * ((page + 1) * strips)) words
+page-by strips words page true e h =
+    let l : page + 1 ≤ words / 2 / strips = omega (arith, ltb-true page (words / 2 / strips) e) in
+    let m = le-div-iff-mul-le {k = strips} {x = page + 1} {y = words / 2} h .0 l in
+    let n = le-div-iff-mul-le {k = 2} {x = (page + 1) * strips} {y = words} (omega arith) .0 m in
+    sym (le-leb (2 * ((page + 1) * strips)) words (omega arith))
+page-by strips words page false e h =
+    let l : words / 2 / strips < page + 1 = omega (arith, ltb-false page (words / 2 / strips) e) in
+    let m = div-lt-iff-lt-mul {k = strips} {x = words / 2} {y = page + 1} h .0 l in
+    let n = div-lt-iff-lt-mul {k = 2} {x = words} {y = (page + 1) * strips} (omega arith) .0 m in
+    sym (lt-leb (2 * ((page + 1) * strips)) words (omega arith))
+
+-- tested by quotients, which don't overflow
+pub page-test : (strips words page : ℕ) → (strips ≡ 0 → ⊥) → ltb page (words / 2 / strips) ≡ pageIn strips words page
+page-test strips words page h = rw (ne-eqb strips 0 h) (page-by strips words page (ltb page (words / 2 / strips)) refl (omega arith))
+
+-- the strips of a page are reckoned, and don't overflow
+module _ (d : Description) (words page strips : ℕ) (w : word (stripsPerPage d) ≡ some strips) where
+  pub page-is : pageIn strips words page ≡ hasPage d words page
+  page-is = rw (word-some _ _ w .0)
+
+  pub first-is : (c : ℕ) → page * strips + c * d .stripsPerChannel ≡ firstStrip d page c
+  first-is c = rw (word-some _ _ w .0)
+
+  pub page-room : pageIn strips words page ≡ true → 2 * (page * strips + strips) ≤ words
+  page-room h = rw (word-some _ _ w .0) (page-there d words page (sym page-is ∙ h) .1)
+
+  pub channel-part : (c : ℕ) → c < d .dims .c → c * d .stripsPerChannel + d .stripsPerChannel ≤ strips
+  channel-part c h = omega (arith, word-some _ _ w .0, suc-mul c (d .stripsPerChannel), mul-le-mul-right (d .stripsPerChannel) h)
+
+-- they overflow: no table is so long
+pub page-over : (d : Description) (words page : ℕ) → words < 2 ^ 64 → word (stripsPerPage d) ≡ none → hasPage d words page ≡ false
+page-over d words page h w = page-missing d words page (omega (arith, word-none _ w))
+
+-- ---- plane's strips by their test
+
+judged-by : (a b : Bool) (first : ℕ) (k : Bool) → (a && b) ≡ k → bind (need decode a) (λ _. bind (need decode b) (λ _. accepted first)) ≡ bind (need decode k) (λ _. accepted first)
+unfolding bind
+judged-by true true first k e = rw (sym e)
+judged-by true false first k e = rw (sym e)
+judged-by false b first k e = rw (sym e)
+
+module _ (d : Description) (t : List ℕ) (len scene time c z size first : ℕ) (e : pictureSize (d .dims .x) (d .dims .y) (d .kind) ≡ accepted size)
+    (h : channelStrips d (length t) scene time c z ≡ accepted first) where
+  judged : (k : Bool) → made t len first (d .stripsPerChannel) size ≡ k → planeStrips d t len scene time c z ≡ bind (need decode k) (λ _. accepted first)
+  unfolding made
+  judged k m = strips-judged d t len scene time c z size first e h ∙ judged-by (inside t len first (d .stripsPerChannel)) (eqb (total t first (d .stripsPerChannel)) size) first k m
+
+  pub strips-made : made t len first (d .stripsPerChannel) size ≡ true → accepted first ≡ planeStrips d t len scene time c z
+  unfolding bind
+  strips-made m = sym (judged true m)
+
+  pub strips-unmade : made t len first (d .stripsPerChannel) size ≡ false → refused decode ≡ planeStrips d t len scene time c z
+  unfolding bind
+  strips-unmade m = sym (judged false m)
+
+-- ---- the coordinate
+
+module _ (d : Description) (scene t c z : ℕ) where
+  pub scene-outside : d .layout .scenes ≤ scene → refused (sceneOutOfRange scene (d .layout .scenes)) ≡ coordinate d scene t c z
+  unfolding coordinate bind
+  scene-outside h = rw (le-ltb scene (d .layout .scenes) h)
+
+  pub scene-inside : scene < d .layout .scenes → coordinates (d .dims) scene t c z ≡ coordinate d scene t c z
+  unfolding coordinate bind
+  scene-inside h = rw (lt-ltb scene (d .layout .scenes) h)
+
+-- ---- whole rows
+
+-- the last of the numbers below suc m, or one before it
+below : {C : Type 0} (k m : ℕ) → k < suc m → (k < m → C) → (k ≡ m → C) → C
+below {C} k m l before last = by (eqb k m) refl
+  where
+    by : (b : Bool) → eqb k m ≡ b → C
+    by true e = last (eqb-true k m e)
+    by false e = let n = eqb-false k m e in before (omega arith)
+
+-- a test of all numbers below m
+module _ (all one : ℕ → Bool) (step : (m : ℕ) → all (suc m) ≡ (all m && one m)) where
+  all-hold : all 0 ≡ true → (m : ℕ) → ((k : ℕ) → k < m → one k ≡ true) → all m ≡ true
+  all-hold z zero h = z
+  all-hold z (suc m) h = step m ∙ ap₂ (λ (a b : Bool). a && b) (all-hold z m (λ k l. h k (omega arith))) (h m (omega arith))
+
+  one-fails : (k m : ℕ) → k < m → one k ≡ false → all m ≡ false
+  one-fails k zero l h = absurd (not-suc-le-zero l)
+  one-fails k (suc m) l h =
+      step m ∙ below k m l (λ u. ap (λ (b : Bool). b && one m) (one-fails k m u h))
+      (λ e. ap (λ (b : Bool). all m && b) (ap one (sym e) ∙ h) ∙ and-false (all m))
+
+channels-all : (d : Description) (t : List ℕ) (page m : ℕ) → ((k : ℕ) → k < m → wholeChannel d t (firstStrip d page k) ≡ true) → wholeChannels d t page m ≡ true
+unfolding wholeChannels
+channels-all d t page m h = all-hold (wholeChannels d t page) (λ k. wholeChannel d t (firstStrip d page k)) (λ k. refl) refl m h
+
+channels-not : (d : Description) (t : List ℕ) (page k m : ℕ) → k < m → wholeChannel d t (firstStrip d page k) ≡ false → wholeChannels d t page m ≡ false
+unfolding wholeChannels
+channels-not d t page k m l h = one-fails (wholeChannels d t page) (λ k. wholeChannel d t (firstStrip d page k)) (λ k. refl) k m l h
+
+-- the strips of channel k of a page that starts at strip `start`
+module _ (d : Description) (t : List ℕ) (page start row : ℕ) (s : start ≡ page * stripsPerPage d) (w : row ≡ rowBytes d) where
+  channel-is : (k : ℕ) → wholeRowsOf row t (start + k * d .stripsPerChannel) (d .stripsPerChannel) (d .dims .y) ≡ wholeChannel d t (firstStrip d page k)
+  unfolding wholeRowsOf wholeChannel
+  channel-is k = rw (s, w)
+
+  pub channels-whole : (m : ℕ) → ((k : ℕ) → k < m → wholeRowsOf row t (start + k * d .stripsPerChannel) (d .stripsPerChannel) (d .dims .y) ≡ true)
+      → true ≡ wholeChannels d t page m
+  channels-whole m h = sym (channels-all d t page m (λ k l. sym (channel-is k) ∙ h k l))
+
+  pub channels-broken : (k m : ℕ) → k < m → wholeRowsOf row t (start + k * d .stripsPerChannel) (d .stripsPerChannel) (d .dims .y) ≡ false
+      → false ≡ wholeChannels d t page m
+  channels-broken k m l h = sym (channels-not d t page k m l (sym (channel-is k) ∙ h))
+
+-- one more that holds
+pub up-to : (g : ℕ → Bool) (m : ℕ) → ((k : ℕ) → k < m → g k ≡ true) → g m ≡ true → (k : ℕ) → k < m + 1 → g k ≡ true
+up-to g m h e k l = below k m (omega arith) (λ u. h k u) (λ q. ap g q ∙ e)
+
+-- a page by its table and its channels
+module _ (d : Description) (t : List ℕ) (page strips : ℕ) (w : word (stripsPerPage d) ≡ some strips) where
+  pub page-out : pageIn strips (length t) page ≡ false → false ≡ wholePage d t page
+  page-out h = ap (λ (b : Bool). b && wholeChannels d t page (d .dims .c)) (sym h ∙ page-is d (length t) page strips w)
+
+  pub page-by-channels : pageIn strips (length t) page ≡ true → (r : Bool) → r ≡ wholeChannels d t page (d .dims .c) → r ≡ wholePage d t page
+  page-by-channels h r e = e ∙ ap (λ (b : Bool). b && wholeChannels d t page (d .dims .c)) (sym h ∙ page-is d (length t) page strips w)
+
+pub pages-step : (d : Description) (t : List ℕ) (n : ℕ) → wholePages d t n ≡ true → wholePage d t n ≡ true → wholePages d t (n + 1) ≡ true
+unfolding wholePages
+pages-step d t n h e = rw (add-one, h) e
+
+pub pages-none : (d : Description) (t : List ℕ) → wholePages d t 0 ≡ true
+unfolding wholePages
+pages-none d t = refl
+
+pub pages-not : (d : Description) (t : List ℕ) (k m : ℕ) → k < m → wholePage d t k ≡ false → wholePages d t m ≡ false
+unfolding wholePages
+pages-not d t k m l h = one-fails (wholePages d t) (wholePage d t) (λ k. refl) k m l h
+
+-- the test over all pages: a row that overflows; one of no bytes; pages that overflow; by the pages
+module _ (d : Description) (t : List ℕ) where
+  pub whole-wide : word (rowBytes d) ≡ none → false ≡ wholeRows d t
+  unfolding wholeRows
+  whole-wide e =
+      sym (ap (λ (b : Bool). not (eqb (rowBytes d) 0) && (b && (ltb (d .layout .scenes * d .layout .depth) (2 ^ 64) && wholePages d t (d .layout .scenes * d .layout .depth))))
+      (le-ltb (rowBytes d) (2 ^ 64) (word-none _ e))
+      ∙ and-false (not (eqb (rowBytes d) 0)))
+
+  module _ (row : ℕ) (w : word (rowBytes d) ≡ some row) where
+    pub whole-empty : row ≡ 0 → false ≡ wholeRows d t
+    unfolding wholeRows
+    whole-empty e = rw (eq-eqb (rowBytes d) 0 (sym (word-some _ _ w .0) ∙ e))
+
+    row-there : (row ≡ 0 → ⊥) → wholeRows d t ≡ (ltb (d .layout .scenes * d .layout .depth) (2 ^ 64) && wholePages d t (d .layout .scenes * d .layout .depth))
+    unfolding wholeRows
+    row-there h = rw (ne-eqb (rowBytes d) 0 (λ z. h (word-some _ _ w .0 ∙ z)), lt-ltb (rowBytes d) (2 ^ 64) (word-some _ _ w .1))
+
+    pub whole-many : (row ≡ 0 → ⊥) → word (d .layout .scenes * d .layout .depth) ≡ none → false ≡ wholeRows d t
+    whole-many h e = sym (row-there h ∙ rw (le-ltb (d .layout .scenes * d .layout .depth) (2 ^ 64) (word-none _ e)))
+
+    pub whole-by : (row ≡ 0 → ⊥) → (pages : ℕ) → word (d .layout .scenes * d .layout .depth) ≡ some pages → wholePages d t pages ≡ wholeRows d t
+    whole-by h pages e =
+        let p = word-some _ _ e in
+        sym (row-there h ∙ rw (lt-ltb (d .layout .scenes * d .layout .depth) (2 ^ 64) (p .1), p .0))
+
+pub page-lost : (d : Description) (t : List ℕ) (page : ℕ) → length t < 2 ^ 64 → word (stripsPerPage d) ≡ none → false ≡ wholePage d t page
+page-lost d t page h w = sym (ap (λ (b : Bool). b && wholeChannels d t page (d .dims .c)) (page-over d (length t) page h w))
+
+pub pages-all : (d : Description) (t : List ℕ) (n m : ℕ) → n ≤ m → m ≤ n → wholePages d t n ≡ true → true ≡ wholePages d t m
+pages-all d t n m l u h = let e : n ≡ m = omega arith in sym (rw e at h)
+
+-- ---- region's strips
+
+-- strips of whole rows where the picture is oversized: no such page; not whole rows; outside the file; there
+channel-whole : (d : Description) (t : List ℕ) (first row : ℕ) → row ≡ rowBytes d → wholeRowsOf row t first (d .stripsPerChannel) (d .dims .y) ≡ wholeChannel d t first
+unfolding wholeRowsOf wholeChannel
+channel-whole d t first row e = rw e
+
+module _ (d : Description) (t : List ℕ) (len scene time c z : ℕ) where
+  pub rows-nowhere : (row : List ℕ) → channelStrips d (length t) scene time c z ≡ refused row → refused row ≡ rowStrips d t len scene time c z
+  unfolding rowStrips bind
+  rows-nowhere row h = rw h
+
+  module _ (first row : ℕ) (h : channelStrips d (length t) scene time c z ≡ accepted first) (w : row ≡ rowBytes d) where
+    rows-found : (b : Bool) → wholeRowsOf row t first (d .stripsPerChannel) (d .dims .y) ≡ b → windowBy b d t len scene time c z first ≡ rowStrips d t len scene time c z
+    unfolding rowStrips bind
+    rows-found b e = rw h (ap (λ (k : Bool). windowBy k d t len scene time c z first) (sym e ∙ channel-whole d t first row w))
+
+    pub rows-broken : (oversized : List ℕ) → pictureSize (d .dims .x) (d .dims .y) (d .kind) ≡ refused oversized
+        → wholeRowsOf row t first (d .stripsPerChannel) (d .dims .y) ≡ false → refused oversized ≡ rowStrips d t len scene time c z
+    rows-broken oversized o e = strips-oversized d t len scene time c z oversized o ∙ rows-found false e
+
+    pub rows-outside : wholeRowsOf row t first (d .stripsPerChannel) (d .dims .y) ≡ true → inside t len first (d .stripsPerChannel) ≡ false
+        → refused decode ≡ rowStrips d t len scene time c z
+    unfolding bind
+    rows-outside e i = sym (rw i) ∙ rows-found true e
+
+    pub rows-at : wholeRowsOf row t first (d .stripsPerChannel) (d .dims .y) ≡ true → inside t len first (d .stripsPerChannel) ≡ true
+        → accepted first ≡ rowStrips d t len scene time c z
+    unfolding bind
+    rows-at e i = sym (rw i) ∙ rows-found true e
+
+  -- the rectangle's own size first
+  module _ (r : Rect) where
+    pub window-over : (row : List ℕ) → pictureSize (r .w) (r .h) (d .kind) ≡ refused row → refused row ≡ windowStrips d t len scene time c z r
+    unfolding windowStrips bind
+    window-over row e = rw e
+
+    pub window-by-rows : (n : ℕ) → pictureSize (r .w) (r .h) (d .kind) ≡ accepted n → rowStrips d t len scene time c z ≡ windowStrips d t len scene time c z r
+    unfolding windowStrips rowStrips bind
+    window-by-rows n e = rw e
+
+    pub region-whole : wholeRows d t ≡ true → windowStrips d t len scene time c z r ≡ regionStrips d t len scene time c z r
+    unfolding regionStrips
+    region-whole e = rw e
+
+    pub region-oversized : (row : List ℕ) → pictureSize (d .dims .x) (d .dims .y) (d .kind) ≡ refused row → wholeRows d t ≡ false
+        → refused row ≡ regionStrips d t len scene time c z r
+    unfolding regionStrips
+    region-oversized row o e = strips-oversized d t len scene time c z row o ∙ rw e
+
+-- the rows of the whole-row test have bytes, and fit the machine
+pub whole-row : (d : Description) (t : List ℕ) → wholeRows d t ≡ true → (0 < rowBytes d) × (rowBytes d < 2 ^ 64)
+unfolding wholeRows
+whole-row d t e =
+    let a = both-hold (not (eqb (rowBytes d) 0)) (ltb (rowBytes d) (2 ^ 64) && (ltb (d .layout .scenes * d .layout .depth) (2 ^ 64) && wholePages d t (d .layout .scenes * d .layout .depth))) e in
+    let b = both-hold (ltb (rowBytes d) (2 ^ 64)) (ltb (d .layout .scenes * d .layout .depth) (2 ^ 64) && wholePages d t (d .layout .scenes * d .layout .depth)) (a .1) in
+    let n = eqb-false (rowBytes d) 0 (not-true _ (a .0)) in
+    (omega arith, ltb-true _ _ (b .0))

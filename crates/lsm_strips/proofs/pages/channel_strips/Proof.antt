@@ -1,0 +1,108 @@
+-- `lsm_strips::pages::channel_strips` meets its contract. Assumes nothing.
+use borrow.Author.Needs.{needs}
+use Rattle.lsm_strips.proofs.pages.channel_strips.Statement.{statement}
+use Rattle.lsm_strips.proofs.pages.channel_strips.Tie as tie
+use native.Mathlib.Omega.{arith}
+use mathlib.Core.Path.{_≡_, sym, ap, _∙_}
+use mathlib.Core.Option.{some}
+use Rattle.lsm_format.specs.Answer.{accepted}
+use Rattle.lsm_format.specs.Words.{word}
+use Rattle.lsm_format.specs.Picture.{stripsPerPage}
+use Rattle.lsm_format.proofs.Words.{told-value, told-overflow}
+use Rattle.lsm_format.proofs.Picture.{channel-nowhere, channel-missing, channel-at}
+use Rattle.lsm_format.specs.Scenes.{pageOf}
+use Rattle.lsm_positions.specs.Code.{indexOf, layoutOf}
+use Rattle.lsm_description.specs.Code.{descriptionOf}
+use Rattle.lsm_strips.proofs.Judging.{page-is, first-is, page-room, channel-part, page-over}
+
+-- the strips of a page don't overflow
+strips-told : (c : tie.After-has-page)
+    → word (stripsPerPage (descriptionOf (c .before .before .before .before .before .before .before .before .before .before .before .args .d))) ≡ some (c .before .before .strips .given .0 .0)
+strips-told c = told-value _ (c .before .before .before .before .checked-mul .ensures) (c .before .before .strips .given .1)
+
+page-told : (c : tie.After-has-page)
+    → pageOf (layoutOf (c .before .before .before .before .before .before .before .before .before .before .before .args .d .layout)) (c .before .before .before .before .before .before .before .before .before .before .before .args .scene) (c .before .before .before .before .before .before .before .before .before .before .before .args .z) ≡ some (c .before .before .before .before .before .before .page .given .0 .0)
+page-told c =
+    let p = c .before .before .before .before .before .before in
+    sym (p .before .before .page-index .ensures) ∙ ap indexOf (p .page .given .1)
+
+page-index-requires : tie.Need-page-index-requires
+page-index-requires c κs = search needs
+
+enum-known-page : tie.Need-enum-known-page
+enum-known-page c = search needs
+
+enum-told : tie.Need-enum-told
+enum-told c = search needs
+
+returns : tie.Need-returns
+returns c = channel-nowhere _ _ _ _ _ _ (sym (c .before .before .page-index .ensures) ∙ ap indexOf (c .enum-told .given .1))
+
+checked-mul-requires : tie.Need-checked-mul-requires
+checked-mul-requires c κs = search needs
+
+enum-known-strips : tie.Need-enum-known-strips
+enum-known-strips c = search needs
+
+enum-told-2 : tie.Need-enum-told-2
+enum-told-2 c = search needs
+
+returns-2 : tie.Need-returns-2
+returns-2 c =
+    let m = c .before .before in
+    let p = m .before .before in
+    let a = p .before .before .before .before .before .args in
+    channel-missing _ _ _ _ _ _ _ (sym (p .before .before .page-index .ensures) ∙ ap indexOf (p .page .given .1))
+    (page-over (descriptionOf (a .d)) (a .words) _ (omega arith) (told-overflow _ (m .checked-mul .ensures) (c .enum-told2 .given .1)))
+
+has-page-requires : tie.Need-has-page-requires
+has-page-requires c κs = search needs
+
+mul-t16 : tie.Need-mul-t16
+mul-t16 c =
+    let h = c .before in
+    let a = h .before .before .before .before .before .before .before .before .before .before .before in
+    omega (arith, page-room (descriptionOf (a .args .d)) _ _ _ (strips-told h) (sym (h .has-page .ensures) ∙ c .if1 .taken))
+
+mul-t17 : tie.Need-mul-t17
+mul-t17 c =
+    let h = c .before .before in
+    let a = h .before .before .before .before .before .before .before .before .before .before .before in
+    omega (arith, page-room (descriptionOf (a .args .d)) _ _ _ (strips-told h) (sym (h .has-page .ensures) ∙ c .before .if1 .taken), channel-part (descriptionOf (a .args .d)) (a .args .words) 0 _ (strips-told h) (a .args .c) (a .pre))
+
+add-t18 : tie.Need-add-t18
+add-t18 c =
+    let h = c .before .before in
+    let a = h .before .before .before .before .before .before .before .before .before .before .before in
+    omega (arith, page-room (descriptionOf (a .args .d)) _ _ _ (strips-told h) (sym (h .has-page .ensures) ∙ c .before .if1 .taken), channel-part (descriptionOf (a .args .d)) (a .args .words) 0 _ (strips-told h) (a .args .c) (a .pre))
+
+returns-3 : tie.Need-returns-3
+returns-3 c =
+    let h = c .before .before in
+    let a = h .before .before .before .before .before .before .before .before .before .before .before in
+    ap accepted (first-is (descriptionOf (a .args .d)) 0 _ _ (strips-told h) _) ∙ channel-at _ _ _ _ _ _ _ (page-told h) (sym (page-is (descriptionOf (a .args .d)) _ _ _ (strips-told h)) ∙ sym (h .has-page .ensures) ∙ c .before .if1 .taken)
+
+returns-4 : tie.Need-returns-4
+returns-4 c =
+    let h = c .before in
+    let a = h .before .before .before .before .before .before .before .before .before .before .before in
+    channel-missing _ _ _ _ _ _ _ (page-told h) (sym (page-is (descriptionOf (a .args .d)) _ _ _ (strips-told h)) ∙ sym (h .has-page .ensures) ∙ c .if1 .left)
+
+pub channel-strips-spec : {M : Type 1} → statement M
+channel-strips-spec =
+    tie.close
+    (tie.spec
+    page-index-requires
+    enum-known-page
+    enum-told
+    returns
+    checked-mul-requires
+    enum-known-strips
+    enum-told-2
+    returns-2
+    has-page-requires
+    mul-t16
+    mul-t17
+    add-t18
+    returns-3
+    returns-4)

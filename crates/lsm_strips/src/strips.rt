@@ -1,0 +1,88 @@
+// What is asked of a channel's strips. Strip i has the table's words 2 * i, where it starts, and 2 * i + 1, its bytes.
+ghost use mathlib.Core.Path.{_≡_};
+ghost use Prim.Native.Nat.{_+_, _*_, _≤_, _<_};
+ghost use lib.Dec.{leb};
+ghost use lib.ListN.{length};
+ghost use Rattle.lsm_format.specs.Picture.{inside};
+ghost use Rattle.lsm_strips.specs.Parts.{made, wholeRowsOf};
+
+// Whether a strip lies in a file of so many bytes. Its end can overflow, so it isn't reckoned.
+fn lies_within(offset: usize, count: usize, len: usize) -> bool
+    ensures { λ r. ⌜ r ≡ leb (offset + count) len ⌝ }
+{
+    if len < count {
+        return false;
+    }
+    offset <= len - count
+}
+
+// Whether each of the strips lies in a file of so many bytes.
+pub(crate) fn strips_inside(table: &[usize], first: usize, n: usize, len: usize) -> bool
+    requires { ⌜ 2 * (first + n) ≤ length (now table) ⌝ }
+    ensures { λ r. ⌜ r ≡ inside (now (table .entry)) len first n ⌝ }
+{
+    let mut i = first;
+    let mut left = n;
+    while 0 < left {
+        if !lies_within(table[2 * i], table[2 * i + 1], len) {
+            return false;
+        }
+        i += 1;
+        left -= 1;
+    }
+    true
+}
+
+// Whether each of the strips lies in the file, and all of them together have the picture's bytes. What is still to come of these
+// bytes is counted down, since the strips' sum can overflow.
+pub(crate) fn strips_make(table: &[usize], first: usize, n: usize, len: usize, size: usize) -> bool
+    requires { ⌜ 2 * (first + n) ≤ length (now table) ⌝ }
+    ensures { λ r. ⌜ r ≡ made (now (table .entry)) len first n size ⌝ }
+{
+    let mut i = first;
+    let mut left = n;
+    let mut bytes = size;
+    while 0 < left {
+        let count = table[2 * i + 1];
+        if !lies_within(table[2 * i], count, len) {
+            return false;
+        }
+        if bytes < count {
+            return false;
+        }
+        bytes -= count;
+        i += 1;
+        left -= 1;
+    }
+    bytes == 0
+}
+
+// Whether each of the strips holds whole rows, and all of them together the picture's. The rows still to come are counted down.
+pub(crate) fn strips_of_rows(
+    table: &[usize],
+    first: usize,
+    n: usize,
+    row: usize,
+    height: usize,
+) -> bool
+    requires { ⌜ (2 * (first + n) ≤ length (now table)) × (0 < row) ⌝ }
+    ensures { λ r. ⌜ r ≡ wholeRowsOf row (now (table .entry)) first n height ⌝ }
+{
+    let mut i = first;
+    let mut left = n;
+    let mut rest = height;
+    while 0 < left {
+        let count = table[2 * i + 1];
+        if count % row != 0 {
+            return false;
+        }
+        let rows = count / row;
+        if rest < rows {
+            return false;
+        }
+        rest -= rows;
+        i += 1;
+        left -= 1;
+    }
+    rest == 0
+}

@@ -1,0 +1,4 @@
+pub mod Halves
+pub mod Pattern
+pub mod Double
+pub mod Product

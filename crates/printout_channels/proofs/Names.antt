@@ -1,0 +1,136 @@
+-- "An array [0; 3072] holds a decoded name at its worst expansion, three bytes for each of 1,024": so every channel is found, and
+-- what the answer and the lent memory hold is the channel. Assumes nothing.
+use Prim.Native.Nat.{ℕ, zero, suc, _+_, _*_, _-_, _≤_, _<_}
+use mathlib.Core.Path.{_≡_, refl, ap, _∙_}
+use mathlib.Core.Bool.{Bool, true, false}
+use mathlib.Core.Option.{Option, none, some}
+use mathlib.Core.List.{List, [], _∷_}
+use native.Mathlib.Omega.{arith}
+use borrow.Author.Tests.{lt-ltb, leb-true}
+use lib.Dec.{leb}
+use lib.IntN.{ℤ, pos, negsuc}
+use lib.ListN.{length, take, drop, length-append, length-take, length-drop}
+use lib.Seq.{take-at}
+use Rattle.lsm_format.specs.Answer.{Result, accepted, refused, bind}
+use Rattle.lsm_format.specs.Numbers.{Order}
+use Rattle.lsm_format.specs.Lent.{filled}
+use Rattle.lsm_format.specs.Utf8.{Piece, sequence, subpart, after, decoded, piece, lossyBy, lossy}
+use Rattle.lsm_format.specs.Channels.{Channel, joined, trimmed, nameBy, name, recordOf, channelBy, pointers, channelIn, textOf, lookup, lookupMemory}
+use Rattle.lsm_format.proofs.Lent.{lend-room, filled-room}
+use Rattle.lsm_channel_colors.specs.Code.{Seen, metaOf, answerOf, lengthOf, seen, Looked}
+use Rattle.lsm_channel_colors.specs.declared.ChannelMeta.{ChannelMeta}
+use Rattle.lsm_channel_colors.specs.declared.ChannelAnswer.{ChannelAnswer}
+use Rattle.lsm_channel_colors.specs.declared.ChannelAnswer.the-variants.{Found, Refused}
+use Rattle.lsm_format.specs.declared.error.Refusal.{Refusal}
+use Rattle.printout_channels.specs.Channel.{firstOf, channelOf}
+
+-- ---- three bytes for each
+
+-- a piece and three bytes for each byte after it
+piece-room : (p : Piece) (b : ℕ) (bs : List ℕ) → length (decoded p b bs) + 3 * (length bs - after p) ≤ 3 * length (b ∷ bs)
+piece-room (sequence n) b bs = omega (arith, length-take n bs)
+piece-room (subpart n) b bs = omega arith
+
+lossy-room : (n : ℕ) (bs : List ℕ) → length (lossyBy n bs) ≤ 3 * length bs
+unfolding lossyBy
+lossy-room zero bs = omega arith
+lossy-room (suc n) [] = omega arith
+lossy-room (suc n) (b ∷ bs) =
+    let p = piece b bs in
+    let rest = drop (after p) bs in
+    omega (arith, length-append (decoded p b bs) (lossyBy n rest), lossy-room n rest, length-drop (after p) bs, piece-room p b bs)
+
+-- ---- a name
+
+joined-room : (b : ℕ) (bs : List ℕ) → length (joined b bs) ≤ suc (length bs)
+joined-room zero [] = omega arith
+joined-room zero (c ∷ bs) = omega arith
+joined-room (suc b) bs = omega arith
+
+trimmed-room : (bs : List ℕ) → length (trimmed bs) ≤ length bs
+trimmed-room [] = omega arith
+trimmed-room (b ∷ bs) = omega (arith, joined-room b (trimmed bs), trimmed-room bs)
+
+text-room : (bs : List ℕ) (n : ℕ) → n ≤ 1024 → length (lossy (trimmed (take n bs))) ≤ 3072
+unfolding lossy
+text-room bs n h =
+    omega (arith, lossy-room (length (trimmed (take n bs))) (trimmed (take n bs)), trimmed-room (take n bs), length-take n bs)
+
+-- the name of a record, by whether it is short enough
+abbrev given : Bool → List ℕ → Option (List ℕ)
+given t text = elim t [ true ↦ some text | false ↦ none ]
+
+record-room : (f : List ℕ) (r : Option (ℕ × ℕ)) → length (textOf (nameBy f r)) ≤ 3072
+record-room f none = omega arith
+record-room f (some r) = go (leb (r .1) 1024) refl
+  where
+    go : (t : Bool) → leb (r .1) 1024 ≡ t → length (textOf (given t (lossy (trimmed (take (r .1) (drop (r .0) f)))))) ≤ 3072
+    go true e = text-room (drop (r .0) f) (r .1) (leb-true (r .1) 1024 e)
+    go false e = omega arith
+
+name-room : (o : Order) (f : List ℕ) (block : ℕ) (names : ℤ) (channel : ℕ) → length (textOf (name o f block names channel)) ≤ 3072
+unfolding name
+name-room o f block (pos zero) channel = omega arith
+name-room o f block (pos (suc n)) channel = record-room f (recordOf o f (block + suc n) channel)
+name-room o f block (negsuc n) channel = omega arith
+
+pointed-room : (o : Order) (f : List ℕ) (block : ℕ) (p : Result (ℤ × ℤ)) (channel : ℕ) → length (textOf (channelBy o f block p channel .name)) ≤ 3072
+pointed-room o f block (accepted p) channel = name-room o f block (p .1) channel
+pointed-room o f block (refused row) channel = omega arith
+
+pub channel-room : (o : Order) (f : List ℕ) (block : Option ℕ) (channel : ℕ) → length (textOf (channelIn o f block channel .name)) ≤ 3072
+unfolding channelIn
+channel-room o f none channel = omega arith
+channel-room o f (some block) channel = pointed-room o f block (pointers o f block) channel
+
+-- ---- the lookup
+
+-- a channel that is there is found
+pub lookup-found : (o : Order) (f : List ℕ) (block : Option ℕ) (channels channel room : ℕ) → channel < channels → 3072 ≤ room
+    → lookup o f block channels channel room ≡ accepted (channelIn o f block channel)
+unfolding lookup bind
+lookup-found o f block channels channel room h k =
+    let l : length (textOf (channelIn o f block channel .name)) ≤ room = omega (arith, channel-room o f block channel) in
+    rw (lt-ltb channel channels h, lend-room (length (textOf (channelIn o f block channel .name))) room l)
+
+memory-found : (o : Order) (f : List ℕ) (block : Option ℕ) (channels channel : ℕ) (before : List ℕ) → channel < channels
+    → lookupMemory o f block channels channel before ≡ filled (textOf (channelIn o f block channel .name)) before
+unfolding lookupMemory
+memory-found o f block channels channel before h =
+    ap (λ (t : Bool). elim t [ true ↦ filled (textOf (channelIn o f block channel .name)) before | false ↦ before ]) (lt-ltb channel channels h)
+
+-- the first bytes of memory that holds a text at its front
+first-text : (t : Option (List ℕ)) (before after : List ℕ) → length (textOf t) ≤ length before → after ≡ filled (textOf t) before
+    → firstOf (lengthOf t) after ≡ t
+first-text none before after h e = refl
+first-text (some t) before after h e = ap some (ap (take (length t)) (e ∙ filled-room t before h) ∙ take-at t (drop (length t) before) (length t) refl)
+
+-- what is seen of a channel
+abbrev seenOf : Channel → Seen
+seenOf c = record { color = c .color; name = lengthOf (c .name) }
+
+module _ {o : Order} {f : List ℕ} {block : Option ℕ} {channels channel : ℕ} {before after : List ℕ} where
+  answered : {s : Result Seen} → channel < channels → length before ≡ 3072 → Looked o f block channels channel before after s
+      → s ≡ accepted (seenOf (channelIn o f block channel))
+  answered h e l = l .answered ∙ ap seen (lookup-found o f block channels channel (length before) h (omega arith))
+
+  -- the answer's channel, its name taken from the memory, is the file's
+  pub looked-found : {r : ChannelAnswer} {m : ChannelMeta} → channel < channels → length before ≡ 3072 → Looked o f block channels channel before after (answerOf r)
+      → r ≡ Found m → channelOf (metaOf m) after ≡ channelIn o f block channel
+  looked-found {r} {m} h e l v =
+      let c = channelIn o f block channel in
+      let a : answerOf r ≡ accepted (seenOf c) = answered h e l in
+      let b : answerOf r ≡ accepted (metaOf m) = ap answerOf v in
+      let q : metaOf m ≡ seenOf c = cc in
+      let n : firstOf (lengthOf (c .name)) after ≡ c .name =
+      first-text (c .name) before after (omega (arith, channel-room o f block channel)) (l .memory ∙ memory-found o f block channels channel before h) in
+      ap (λ (s : Seen). channelOf s after) q ∙ ap (λ (t : Option (List ℕ)). record { color = c .color; name = t }) n
+
+  -- it is not refused
+  pub looked-refused : {r : ChannelAnswer} {e : Refusal} → channel < channels → length before ≡ 3072 → Looked o f block channels channel before after (answerOf r)
+      → r ≡ Refused e → ⊥
+  looked-refused {r} {e} h k l v =
+      let a : answerOf r ≡ accepted (seenOf (channelIn o f block channel)) = answered h k l in
+      let b = ap answerOf v in
+      let z : _≡_ {A = ℕ} 0 1 = cc in
+      omega arith
