@@ -283,12 +283,13 @@ impl Opened {
     }
 }
 
-// How long opening takes; the file is in memory.
-pub fn timed_open(memory: &mut Memory, bytes: &[u8]) -> Duration {
+// How long opening takes; the file is in memory. And whether it was accepted.
+pub fn timed_open(memory: &mut Memory, bytes: &[u8]) -> (Duration, bool) {
     memory.put(bytes);
     let start = Instant::now();
     let answer = LsmReader::open(&memory.path);
     let took = start.elapsed();
-    std::hint::black_box(answer.expect("an opened file"));
-    took
+    let accepted = answer.is_ok();
+    std::hint::black_box(answer.is_ok());
+    (took, accepted)
 }

@@ -99,7 +99,9 @@ fn opening(port: &mut dyn Port, what: &str, p: &Pages) {
     let mut table = vec![0; (2 * p.pages * p.strips) as usize];
     let (mut original, mut ours) = (vec![], vec![]);
     for _ in 0..RUNS {
-        original.push(probe::timed_open(&mut memory, &bytes));
+        let (took, accepted) = probe::timed_open(&mut memory, &bytes);
+        assert!(accepted);
+        original.push(took);
         let mut answer = [0; 20];
         let start = Instant::now();
         let n = port.open(&bytes, &mut table, &mut answer);
@@ -126,4 +128,92 @@ pub fn run(port: &mut dyn Port) {
     let small = |pages, strips| Pages { big: false, width: 64, height: 64, size: 1, pages, strips };
     opening(port, "open, 10,000 directories of one strip", &small(10_000, 1));
     opening(port, "open, 1,000 directories of 64 strips", &small(1000, 64));
+}
+
+// ---- hostile files: what they cost each reader to open
+
+const REDUCED: u64 = 1;
+
+// A file of so many bytes with a reduced directory at each place: its only entry says that it is reduced, and it leads to the next place.
+fn reduced_chain(places: &[u64], last: u64, len: usize) -> Vec<u8> {
+    let mut f = File::new(false, len);
+    f.put(4, places[0], 4);
+    for (i, &at) in places.iter().enumerate() {
+        let at = at as usize;
+        f.put(at, 1, 2);
+        f.entry(at + 2, 254, 4, 1, REDUCED);
+        f.put(at + 14, places.get(i + 1).copied().unwrap_or(last), 4);
+    }
+    f.bytes
+}
+
+// So many reduced directories, of which the last leads back to the one with number `to`.
+fn circle(directories: u64, to: u64) -> Vec<u8> {
+    let places: Vec<u64> = (0..directories).map(|i| 8 + 18 * i).collect();
+    reduced_chain(&places, places[to as usize], (8 + 18 * directories) as usize)
+}
+
+// One reduced directory of so many strip arrays, each of so many values, which leads to itself or to none.
+fn arrays(entries: u64, values: u64, back: bool) -> Vec<u8> {
+    let end = 8 + 2 + 12 * (entries + 1) + 4;
+    let mut f = File::new(false, (end + values) as usize);
+    f.put(8, entries + 1, 2);
+    f.entry(10, 254, 4, 1, REDUCED);
+    for i in 0..entries {
+        f.entry((22 + 12 * i) as usize, if i % 2 == 0 { 273 } else { 279 }, 1, values, end);
+    }
+    f.put((end - 4) as usize, if back { 8 } else { 0 }, 4);
+    f.bytes
+}
+
+// So many directories of 65,535 entries that nobody reads, each 12 bytes past the one before, so that they lie over one another. The next
+// pointer of one is the tag of an entry of another: they start so far on that it is no tag that is read.
+fn overlapping(directories: u64) -> Vec<u8> {
+    let first = 4096;
+    let long = 2 + 12 * 65_535;
+    let mut f = File::new(false, (first + 12 * directories + long + 4) as usize);
+    f.put(4, first, 4);
+    for i in 0..directories {
+        f.put((first + 12 * i) as usize, 65_535, 2);
+    }
+    for i in 0..directories {
+        let next = if i + 1 < directories { first + 12 * (i + 1) } else { 0 };
+        f.put((first + 12 * i + long) as usize, next, 4);
+    }
+    f.bytes
+}
+
+// One page of so many strips of one byte.
+fn strips(n: u64) -> Vec<u8> {
+    file(&Pages { big: false, width: 1, height: n, size: 1, pages: 1, strips: n })
+}
+
+fn hostile_file(port: &mut dyn Port, what: &str, bytes: &[u8], runs: usize) {
+    let mut memory = Memory::new();
+    let mut table = vec![0; 1 << 21];
+    let (mut original, mut ours) = (vec![], vec![]);
+    for _ in 0..runs {
+        let (took, accepted) = probe::timed_open(&mut memory, bytes);
+        original.push(took);
+        let mut answer = [0; 20];
+        let start = Instant::now();
+        let n = port.open(bytes, &mut table, &mut answer);
+        ours.push(start.elapsed());
+        assert_eq!(n == 0, accepted);
+    }
+    line(&format!("{what}, {} bytes", bytes.len()), &original, &ours, &[]);
+}
+
+pub fn hostile(port: &mut dyn Port) {
+    println!("port: {}; opening, least of the runs of each", port.name());
+    hostile_file(port, "a directory that leads to itself", &circle(1, 0), 3);
+    hostile_file(port, "1,000 directories in a circle", &circle(1000, 0), 3);
+    hostile_file(port, "1,000 directories, then one in a circle", &circle(1001, 1000), 3);
+    hostile_file(port, "100,000 directories in a circle", &circle(100_000, 0), 3);
+    hostile_file(port, "1,000,000 directories, no circle", &reduced_chain(&(0..1_000_000).map(|i| 8 + 18 * i).collect::<Vec<_>>(), 0, 18_000_008), 3);
+    hostile_file(port, "65,535 entries", &overlapping(1), 3);
+    hostile_file(port, "200 overlapping directories of 65,535", &overlapping(200), 3);
+    hostile_file(port, "100,000 strips", &strips(100_000), 3);
+    hostile_file(port, "400 strip arrays of 60,000 values", &arrays(400, 60_000, false), 3);
+    hostile_file(port, "5,000 strip arrays of 60,000 values", &arrays(5000, 60_000, false), 1);
 }

@@ -32,6 +32,7 @@ struct Options {
     keep: u64,
     fault: usize,
     bench: bool,
+    hostile: bool,
 }
 
 const USAGE: &str = "options:
@@ -47,6 +48,7 @@ const USAGE: &str = "options:
   --keep N       go on until N differences were shown (1)
   --fault N      a port with a fault, 1 to 22, to see that it is noticed
   --bench        times of both instead of a comparison
+  --hostile      times of opening hostile files
   --case N       only this case: its bytes and both answers
   --file PATH    only this file
   --record DIR --count N   write the list of recorded answers";
@@ -69,6 +71,7 @@ fn options() -> Options {
         keep: 1,
         fault: 0,
         bench: false,
+        hostile: false,
     };
     let mut args = std::env::args().skip(1);
     while let Some(a) = args.next() {
@@ -97,6 +100,7 @@ fn options() -> Options {
             "--fault" => o.fault = number(value()) as usize,
             "--keep" => o.keep = number(value()),
             "--bench" => o.bench = true,
+            "--hostile" => o.hostile = true,
             _ => usage(),
         }
     }
@@ -223,6 +227,10 @@ fn main() {
     std::panic::set_hook(Box::new(|p| eprintln!("{p}")));
     if let Some(folder) = &o.record {
         record::write(folder, o.seed, o.count);
+        return;
+    }
+    if o.hostile {
+        bench::hostile(&mut *port::port(o.fault));
         return;
     }
     if o.bench {
