@@ -1,9 +1,5 @@
 // A line `n`: a channel and the name's room in bytes, and the answer that looking the channel up in the line's file gives.
 use crate::opening::refused;
-use crate::same::BYTE;
-use crate::same::kept_bytes;
-use crate::same::same_bytes;
-use crate::same::same_words;
 use lsm_channel_colors::ChannelAnswer;
 use lsm_channel_colors::ChannelMeta;
 use lsm_channel_colors::Color;
@@ -12,6 +8,10 @@ use lsm_description::Description;
 use lsm_description::channel;
 use lsm_reader::open::OpenAnswer;
 use lsm_reader::open::open_file;
+use vector_text::same::BYTE;
+use vector_text::same::kept_bytes;
+use vector_text::same::same_then_kept;
+use vector_text::same::same_words;
 ghost use mathlib.Core.Path.{_≡_};
 ghost use mathlib.Core.Bool.{true};
 ghost use Prim.Native.Nat.{_≤_};
@@ -52,16 +52,10 @@ fn found(said: &[usize], m: ChannelMeta, text: &[u8]) -> bool
     if said.len() < 7 {
         return false;
     }
-    if text.len() < len {
-        return false;
-    }
     if !same_words(&said[..7], &[0, c[0], c[1], c[2], c[3], n[0], len]) {
         return false;
     }
-    if !same_bytes(&said[7..], &text[..len]) {
-        return false;
-    }
-    kept_bytes(&text[len..])
+    same_then_kept(&said[7..], text, len)
 }
 
 // Whether looking a channel up with room for a name lent gives what is said.

@@ -13,7 +13,6 @@ ghost use lib.ListN.{length};
 mod description;
 mod lookup;
 mod opening;
-mod same;
 
 // How many lines there were, and how many differ.
 struct Tally {

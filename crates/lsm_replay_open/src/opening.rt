@@ -1,31 +1,30 @@
 // A line `o`: the table's room in words, and the answer that opening the line's file gives.
 use crate::description::words;
-use crate::same::WORD;
-use crate::same::kept_words;
-use crate::same::same_words;
 use lsm_format::error::Refusal;
 use lsm_reader::open::OpenAnswer;
 use lsm_reader::open::Opened;
 use lsm_reader::open::open_file;
+use vector_text::same::WORD;
+use vector_text::same::kept_words;
+use vector_text::same::same_front;
+use vector_text::same::same_words;
 ghost use mathlib.Core.Path.{_≡_};
 ghost use mathlib.Core.Bool.{true};
 ghost use Prim.Native.Nat.{_≤_};
 ghost use lib.ListN.{length};
+ghost use Rattle.lsm_format.specs.Code.{rowOf};
 
 // The largest table that a line asks for.
 const ROOM: usize = 64;
 
 // Whether a refusal's numbers are those said.
 pub fn refused(said: &[usize], r: Refusal) -> bool
-    ensures { λ b. ⌜ (b ≡ true → length (now (said .entry)) ≤ 5) ⌝ }
+    ensures { λ b. ⌜ (b ≡ true → length (now (said .entry)) ≡ length (rowOf r)) ⌝ }
 {
     let row = r.numbers();
     let numbers = row.numbers;
     let len = row.len;
-    if 5 < len {
-        return false;
-    }
-    same_words(said, &numbers[..len])
+    same_front(said, &numbers, len)
 }
 
 // Whether the numbers said are 0, the directories visited, the words of the table, the description and the table, and the words

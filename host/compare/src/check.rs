@@ -10,7 +10,7 @@ use std::time::{Duration, Instant};
 
 // The original reserves the whole picture before it looks at a strip. Larger ones up to the limit of 4 GiB are not asked for.
 pub const RESERVE: usize = 1 << 26;
-const LIMIT: usize = 1 << 32;
+pub const LIMIT: usize = 1 << 32;
 
 // How many of a sort of call came out how: by the refusal's number, 0 for accepted.
 #[derive(Default, Clone)]
@@ -136,6 +136,55 @@ fn room(r: &mut Random, need: usize) -> usize {
         2 => need + 1 + r.below(3),
         _ => need + r.below(40),
     }
+}
+
+// A coordinate in range, or now and then out of it.
+pub fn place(o: &Opened, r: &mut Random) -> [usize; 4] {
+    let counts = [o.words[7], o.words[2], o.words[3], o.words[4]];
+    let mut at = counts.map(|n| r.below(n.max(1)));
+    if r.chance(15) {
+        let k = r.below(4);
+        at[k] = r.of(&[counts[k], counts[k].saturating_add(1), usize::MAX, 1 << 32, 1 << 63]);
+    }
+    at
+}
+
+// A rectangle of a picture: inside, at the edge, past it, overflowing or empty.
+pub fn rectangle(wide: usize, high: usize, r: &mut Random) -> [usize; 4] {
+    let mut rect = [r.below(wide.max(1)), r.below(high.max(1)), 0, 0];
+    rect[2] = 1 + r.below((wide - rect[0].min(wide)).max(1));
+    rect[3] = 1 + r.below((high - rect[1].min(high)).max(1));
+    if 1 << 20 < wide.saturating_mul(high) && r.chance(70) {
+        // a small part of a large picture
+        rect[2] = rect[2].min(1 + r.below(300));
+        rect[3] = rect[3].min(1 + r.below(40));
+    }
+    match r.below(12) {
+        0 => rect = [0, 0, wide, high],
+        1 => rect[2] = wide.saturating_sub(rect[0]),
+        2 => rect[3] = high.saturating_sub(rect[1]),
+        3 => rect[2] = wide.saturating_sub(rect[0]).saturating_add(1),
+        4 => rect[3] = high.saturating_sub(rect[1]).saturating_add(1),
+        5 => rect[2 + r.below(2)] = 0,
+        6 => rect = [wide, high, 0, 0],
+        7 => rect = [wide, rect[1], r.below(2), rect[3]],
+        8 => {
+            let k = r.below(4);
+            let most = usize::MAX - rect[(k + 2) % 4];
+            rect[k] = r.of(&[usize::MAX, 1 << 63, most, most.wrapping_add(1)]);
+        }
+        _ => {}
+    }
+    rect
+}
+
+// The bytes that the original reserves for a picture, or for a rectangle of it.
+pub fn reserved(o: &Opened, rect: Option<[usize; 4]>) -> usize {
+    let [w, h] = match rect {
+        Some([_, _, w, h]) if o.whole_rows() => [w, h],
+        _ => [o.words[6], o.words[5]],
+    };
+    w.saturating_mul(h).saturating_mul([1, 2, 2, 4][o.words[1]])
 }
 
 impl Both {
@@ -386,19 +435,8 @@ impl Both {
         (!self.name.holds(written)).then(|| format!("{}: name {}", call(), self.name.fault(written)))
     }
 
-    // A coordinate in range, or now and then out of it.
-    fn place(o: &Opened, r: &mut Random) -> [usize; 4] {
-        let counts = [o.words[7], o.words[2], o.words[3], o.words[4]];
-        let mut at = counts.map(|n| r.below(n.max(1)));
-        if r.chance(15) {
-            let k = r.below(4);
-            at[k] = r.of(&[counts[k], counts[k].saturating_add(1), usize::MAX, 1 << 32, 1 << 63]);
-        }
-        at
-    }
-
     fn planes(&mut self, file: &[u8], o: &Opened, r: &mut Random) -> Option<String> {
-        let size = o.words[5].saturating_mul(o.words[6]).saturating_mul([1, 2, 2, 4][o.words[1]]);
+        let size = reserved(o, None);
         let (scenes, c, z) = (o.words[7], o.words[3], o.words[4]);
         let mut list = Vec::new();
         if scenes.saturating_mul(c).saturating_mul(z) <= 4 {
@@ -408,10 +446,10 @@ impl Both {
                 }
             }
             if r.chance(40) {
-                list.push(Both::place(o, r));
+                list.push(place(o, r));
             }
         } else {
-            list.extend((0..3).map(|_| Both::place(o, r)));
+            list.extend((0..3).map(|_| place(o, r)));
         }
         for at in list {
             if RESERVE < size && size <= LIMIT {
@@ -426,40 +464,12 @@ impl Both {
     }
 
     fn regions(&mut self, file: &[u8], o: &Opened, r: &mut Random) -> Option<String> {
-        let sample = [1, 2, 2, 4][o.words[1]];
         let (high, wide) = (o.words[5], o.words[6]);
         let often = if file.len() < 100_000 { 3 } else { 40 };
         for _ in 0..often {
-            let at = Both::place(o, r);
-            let mut rect = [r.below(wide.max(1)), r.below(high.max(1)), 0, 0];
-            rect[2] = 1 + r.below((wide - rect[0].min(wide)).max(1));
-            rect[3] = 1 + r.below((high - rect[1].min(high)).max(1));
-            if 1 << 20 < wide.saturating_mul(high) && r.chance(70) {
-                // a small part of a large picture
-                rect[2] = rect[2].min(1 + r.below(300));
-                rect[3] = rect[3].min(1 + r.below(40));
-            }
-            match r.below(12) {
-                0 => rect = [0, 0, wide, high],
-                1 => rect[2] = wide.saturating_sub(rect[0]),
-                2 => rect[3] = high.saturating_sub(rect[1]),
-                3 => rect[2] = wide.saturating_sub(rect[0]).saturating_add(1),
-                4 => rect[3] = high.saturating_sub(rect[1]).saturating_add(1),
-                5 => rect[2 + r.below(2)] = 0,
-                6 => rect = [wide, high, 0, 0],
-                7 => rect = [wide, rect[1], r.below(2), rect[3]],
-                8 => {
-                    let k = r.below(4);
-                    let most = usize::MAX - rect[(k + 2) % 4];
-                    rect[k] = r.of(&[usize::MAX, 1 << 63, most, most.wrapping_add(1)]);
-                }
-                _ => {}
-            }
-            let size = if o.whole_rows() {
-                rect[2].saturating_mul(rect[3]).saturating_mul(sample)
-            } else {
-                wide.saturating_mul(high).saturating_mul(sample)
-            };
+            let at = place(o, r);
+            let rect = rectangle(wide, high, r);
+            let size = reserved(o, Some(rect));
             if RESERVE < size && size <= LIMIT {
                 self.tally.not_reserved += 1;
                 continue;

@@ -4,6 +4,7 @@ mod check;
 mod large;
 mod lent;
 mod make;
+mod pictures;
 mod port;
 mod random;
 mod record;
@@ -51,7 +52,7 @@ const USAGE: &str = "options:
   --hostile      times of opening hostile files
   --case N       only this case: its bytes and both answers
   --file PATH    only this file
-  --record DIR --count N   write the list of recorded answers";
+  --record DIR --count N   write the lists of recorded answers";
 
 fn options() -> Options {
     let mut o = Options {

@@ -2,13 +2,14 @@
 use crate::check::rule;
 use crate::large;
 use crate::make;
+use crate::pictures;
 use crate::random::Random;
 use crate::walk::{number, walk, Walk};
 use original::probe::{self, Memory, Opened};
 use std::collections::BTreeMap;
 
 // A line: a letter, numbers in hexadecimal, a colon and bytes. `*NNBB` is NN bytes BB.
-fn line(kind: char, numbers: &[usize], bytes: &[u8]) -> String {
+pub fn line(kind: char, numbers: &[usize], bytes: &[u8]) -> String {
     let mut s = kind.to_string();
     for n in numbers {
         s.push_str(&format!(" {n:x}"));
@@ -29,7 +30,7 @@ fn line(kind: char, numbers: &[usize], bytes: &[u8]) -> String {
     s
 }
 
-fn refusal(row: &[usize; 5]) -> &[usize] {
+pub fn refusal(row: &[usize; 5]) -> &[usize] {
     match row[0] {
         4 | 5 => &row[..3],
         6 => &row[..],
@@ -39,23 +40,39 @@ fn refusal(row: &[usize; 5]) -> &[usize] {
 
 pub struct List {
     memory: Memory,
-    random: Random,
+    pub random: Random,
     pub text: String,
-    files: usize,
+    pub files: usize,
     lines: BTreeMap<String, usize>,
+    seen: BTreeMap<String, usize>,
     most_numbers: usize,
     most_bytes: usize,
 }
 
 impl List {
-    fn push(&mut self, kind: char, numbers: &[usize], bytes: &[u8]) {
+    pub fn push(&mut self, kind: char, numbers: &[usize], bytes: &[u8]) {
         self.most_numbers = self.most_numbers.max(numbers.len());
         self.most_bytes = self.most_bytes.max(bytes.len());
         self.text.push_str(&line(kind, numbers, bytes));
     }
 
-    fn count(&mut self, what: String) {
+    pub fn count(&mut self, what: String) {
         *self.lines.entry(what).or_default() += 1;
+    }
+
+    pub fn written(&self) -> usize {
+        self.lines.values().sum()
+    }
+
+    // Whether something of this was seen less often. If so, all of it is seen once more.
+    pub fn wanted(&mut self, shown: Vec<String>, often: usize) -> bool {
+        let wanted = shown.iter().any(|s| self.seen.get(s).copied().unwrap_or(0) < often);
+        if wanted {
+            for s in shown {
+                *self.seen.entry(s).or_default() += 1;
+            }
+        }
+        wanted
     }
 
     // `o ROOM ANSWER:FILE` and, where it opens, `n CHANNEL ROOM ANSWER:FILE`.
@@ -274,6 +291,7 @@ fn list(seed: u64, part: u64) -> List {
         text: String::new(),
         files: 0,
         lines: BTreeMap::new(),
+        seen: BTreeMap::new(),
         most_numbers: 0,
         most_bytes: 0,
     }
@@ -289,19 +307,23 @@ impl List {
             println!("{n:>6} {what}");
         }
     }
+
+    fn show(&self, name: &str) {
+        println!("what the lines of `{name}` show, and how often:");
+        for (what, n) in &self.seen {
+            println!("{n:>6} {what}");
+        }
+    }
 }
 
-// Two lists: `open`, whose lines are short, and `long`, a few files with names about 1,024 bytes.
+// Three lists: `open`, whose lines are short; `long`, a few files with names about 1,024 bytes; `pictures`, planes and rectangles.
 pub fn write(folder: &str, seed: u64, count: usize) {
     let mut memory = Memory::new();
-    let mut seen: BTreeMap<String, usize> = BTreeMap::new();
     let mut short = list(seed, 0);
     for f in neighbours() {
         let w = walk(&f);
         if !w.circle {
-            for s in shows(&mut memory, &f, &w) {
-                *seen.entry(s).or_default() += 1;
-            }
+            short.wanted(shows(&mut memory, &f, &w), usize::MAX);
             short.file(&f, &w);
         }
     }
@@ -331,10 +353,7 @@ pub fn write(folder: &str, seed: u64, count: usize) {
         if (400 < f.len() || 420 < text) && !scenes {
             continue;
         }
-        if s.iter().any(|s| seen.get(s).copied().unwrap_or(0) < often) {
-            for s in s {
-                *seen.entry(s).or_default() += 1;
-            }
+        if short.wanted(s, often) {
             short.file(&f, &w);
         }
     }
@@ -365,8 +384,10 @@ pub fn write(folder: &str, seed: u64, count: usize) {
         }
     }
     long.save(folder, "long");
-    println!("what the files of `open` show, and how often:");
-    for (what, n) in &seen {
-        println!("{n:>6} {what}");
-    }
+
+    let mut calls = list(seed, 2);
+    pictures::record(&mut calls, seed, count);
+    calls.save(folder, "pictures");
+    short.show("open");
+    calls.show("pictures");
 }

@@ -1,7 +1,7 @@
 // What is compared: words with words, words with bytes, and lent memory with what was in it before.
 ghost use mathlib.Core.Path.{_≡_};
 ghost use mathlib.Core.Bool.{true};
-ghost use Prim.Native.Nat.{ℕ, _<_};
+ghost use Prim.Native.Nat.{ℕ, _<_, _≤_};
 ghost use lib.ListN.{length, getD};
 
 // What lent words hold before a call.
@@ -25,6 +25,17 @@ pub fn same_words(a: &[usize], b: &[usize]) -> bool
         i += 1;
     }
     true
+}
+
+// Whether the words are the first n of the others.
+pub fn same_front(a: &[usize], b: &[usize], n: usize) -> bool
+    ensures { λ r. ⌜ (r ≡ true → (length (now (a .entry)) ≡ n) × (n ≤ length (now (b .entry)))) ⌝ }
+    ensures { λ r. ⌜ (r ≡ true → (k : ℕ) → k < n → getD (now (a .entry)) k 0 ≡ getD (now (b .entry)) k 0) ⌝ }
+{
+    if b.len() < n {
+        return false;
+    }
+    same_words(a, &b[..n])
 }
 
 fn wide(b: u8) -> usize
@@ -76,4 +87,19 @@ pub fn kept_bytes(a: &[u8]) -> bool
         i += 1;
     }
     true
+}
+
+// Whether the words are the first n of the bytes, and the bytes past them are as they were.
+pub fn same_then_kept(a: &[usize], b: &[u8], n: usize) -> bool
+    ensures { λ r. ⌜ (r ≡ true → (length (now (a .entry)) ≡ n) × (n ≤ length (now (b .entry)))) ⌝ }
+    ensures { λ r. ⌜ (r ≡ true → (k : ℕ) → k < n → getD (now (a .entry)) k 0 ≡ getD (now (b .entry)) k 0) ⌝ }
+    ensures { λ r. ⌜ (r ≡ true → (k : ℕ) → n ≤ k → k < length (now (b .entry)) → getD (now (b .entry)) k 0 ≡ 165) ⌝ }
+{
+    if b.len() < n {
+        return false;
+    }
+    if same_bytes(a, &b[..n]) {
+        return kept_bytes(&b[n..]);
+    }
+    false
 }

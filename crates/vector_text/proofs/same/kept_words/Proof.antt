@@ -1,12 +1,12 @@
--- `lsm_replay_open::same::kept_words` meets its contract: all before i is as it was. Assumes nothing.
+-- `vector_text::same::kept_words` meets its contract: all before i is as it was. Assumes nothing.
 use Prim.Native.Nat.{ℕ, _-_, _≤_, _<_}
 use native.Mathlib.Omega.{arith}
 use mathlib.Core.Path.{_≡_}
 use borrow.Author.Needs.{needs}
 use lib.ListN.{length, getD}
 use borrow.Author.Count.{below-more}
-use Rattle.lsm_replay_open.proofs.same.kept_words.Statement.{statement}
-use Rattle.lsm_replay_open.proofs.same.kept_words.Tie as tie
+use Rattle.vector_text.proofs.same.kept_words.Statement.{statement}
+use Rattle.vector_text.proofs.same.kept_words.Tie as tie
 
 abbrev Inv-loop : tie.InvT-loop
 Inv-loop a i₀ i = (i ≤ length a) × ((k : ℕ) → k < i → getD a k 0 ≡ 11936128518282651045)

@@ -1,0 +1,41 @@
+-- `lsm_replay_pictures::picture::answered` meets its contract. Assumes nothing.
+use Prim.Native.Nat.{ℕ}
+use native.Mathlib.Omega.{arith}
+use mathlib.Core.Path.{_≡_}
+use lib.ListN.{length}
+use borrow.Author.Needs.{needs}
+use Rattle.lsm_replay_pictures.proofs.picture.answered.Statement.{statement}
+use Rattle.lsm_replay_pictures.proofs.picture.answered.Tie as tie
+
+plane-agrees-requires : tie.Need-plane-agrees-requires
+plane-agrees-requires c κs = search needs
+
+same-length : tie.Need-same-length
+same-length c = search needs
+
+returns : tie.Need-returns
+returns c = search needs
+
+region-agrees-requires : tie.Need-region-agrees-requires
+region-agrees-requires c κs = search needs
+
+same-length-2 : tie.Need-same-length-2
+same-length-2 c = search needs
+
+returns-2 : tie.Need-returns-2
+returns-2 c = λ e. omega (arith, c .before .before .region-agrees .ensures e)
+
+returns-3 : tie.Need-returns-3
+returns-3 c = λ e. let z : _≡_ {A = ℕ} 0 1 = cc in absurd (omega arith)
+
+pub answered-spec : {M : Type 1} → statement M
+answered-spec =
+    tie.close
+    (tie.spec
+    plane-agrees-requires
+    same-length
+    returns
+    region-agrees-requires
+    same-length-2
+    returns-2
+    returns-3)

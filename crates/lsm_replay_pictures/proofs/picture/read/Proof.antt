@@ -1,0 +1,55 @@
+-- `lsm_replay_pictures::picture::read` meets its contract. Assumes nothing.
+use Prim.Native.Nat.{ℕ}
+use native.Mathlib.Omega.{arith}
+use mathlib.Core.Path.{_≡_}
+use Rattle.vector_text.proofs.Laws.{taken, rested}
+use borrow.Author.Needs.{needs}
+use Rattle.lsm_replay_pictures.proofs.picture.read.Statement.{statement}
+use Rattle.lsm_replay_pictures.proofs.picture.read.Tie as tie
+
+returns : tie.Need-returns
+returns c = λ e. let z : _≡_ {A = ℕ} 0 1 = cc in absurd (omega arith)
+
+slice-aggregate-same-words : tie.Need-slice-aggregate-same-words
+slice-aggregate-same-words c = taken 4 (c .before .before .before .before .args .said .now) (omega arith)
+
+slice-aggregate-same-words-2 : tie.Need-slice-aggregate-same-words-2
+slice-aggregate-same-words-2 c = search needs
+
+same-words-requires : tie.Need-same-words-requires
+same-words-requires c κs = search needs
+
+returns-2 : tie.Need-returns-2
+returns-2 c = λ e. let z : _≡_ {A = ℕ} 0 1 = cc in absurd (omega arith)
+
+sub-same-then-kept : tie.Need-sub-same-then-kept
+sub-same-then-kept c = search needs
+
+part-same-then-kept-start : tie.Need-part-same-then-kept-start
+part-same-then-kept-start c = search needs
+
+part-same-then-kept-end : tie.Need-part-same-then-kept-end
+part-same-then-kept-end c = search needs
+
+same-then-kept-requires : tie.Need-same-then-kept-requires
+same-then-kept-requires c κs = search needs
+
+returns-3 : tie.Need-returns-3
+returns-3 c = λ e.
+    let said = c .before .before .before .before .before .before .before .before .before .args .said .now in
+    (omega (arith, rested 4 said (omega arith), c .same-then-kept .ensures .0 e), c .same-then-kept .ensures .0 e .1)
+
+pub read-spec : {M : Type 1} → statement M
+read-spec =
+    tie.close
+    (tie.spec
+    returns
+    slice-aggregate-same-words
+    slice-aggregate-same-words-2
+    same-words-requires
+    returns-2
+    sub-same-then-kept
+    part-same-then-kept-start
+    part-same-then-kept-end
+    same-then-kept-requires
+    returns-3)

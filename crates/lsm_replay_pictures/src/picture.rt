@@ -1,0 +1,156 @@
+// A line: the sample buffer's room in bytes, the coordinates, for a rectangle its four numbers, and the answer.
+use lsm_description::Description;
+use lsm_format::error::Refusal;
+use lsm_format::types::PixelRect;
+use lsm_reader::open::OpenAnswer;
+use lsm_reader::open::open_file;
+use lsm_region::Picture;
+use lsm_region::PictureAnswer;
+use lsm_region::plane;
+use lsm_region::region;
+use vector_text::same::BYTE;
+use vector_text::same::kept_bytes;
+use vector_text::same::same_front;
+use vector_text::same::same_then_kept;
+use vector_text::same::same_words;
+ghost use mathlib.Core.Path.{_≡_};
+ghost use mathlib.Core.Bool.{true};
+ghost use Prim.Native.Nat.{_+_, _≤_};
+ghost use lib.ListN.{length};
+ghost use Rattle.lsm_format.specs.Code.{rowOf};
+
+// The largest sample buffer that a line lends, and the words of the table.
+const ROOM: usize = 1024;
+
+const WORDS: usize = 256;
+
+// Whether the numbers said are 0, the height, the width, the number of bytes and the bytes, and the bytes past them are as they
+// were.
+fn read(said: &[usize], p: Picture, out: &[u8]) -> bool
+    ensures { λ r. ⌜ (r ≡ true → (length (now (said .entry)) ≡ 4 + p .bytes) × (p .bytes ≤ length (now (out .entry)))) ⌝ }
+{
+    let n = p.bytes;
+    if said.len() < 4 {
+        return false;
+    }
+    if !same_words(&said[..4], &[0, p.height, p.width, n]) {
+        return false;
+    }
+    same_then_kept(&said[4..], out, n)
+}
+
+// Whether the numbers said are the refusal's, and every byte is as it was.
+fn refused(said: &[usize], r: Refusal, out: &[u8]) -> bool
+    ensures { λ b. ⌜ (b ≡ true → length (now (said .entry)) ≡ length (rowOf r)) ⌝ }
+{
+    let row = r.numbers();
+    let numbers = row.numbers;
+    let len = row.len;
+    if !kept_bytes(out) {
+        return false;
+    }
+    same_front(said, &numbers, len)
+}
+
+// Whether what is said is the answer to a plane.
+fn plane_agrees(
+    said: &[usize],
+    file: &[u8],
+    d: Description,
+    table: &[usize],
+    out: &mut [u8],
+) -> bool
+    ensures { λ r. ⌜ (r ≡ true → 4 ≤ length (now (said .entry))) ⌝ }
+{
+    if said.len() < 4 {
+        return false;
+    }
+    match plane(file, d, table, said[0], said[1], said[2], said[3], out) {
+        PictureAnswer::Read(p) => read(&said[4..], p, out),
+        PictureAnswer::Refused(r) => refused(&said[4..], r, out),
+    }
+}
+
+// Whether what is said is the answer to a rectangle.
+fn region_agrees(
+    said: &[usize],
+    file: &[u8],
+    d: Description,
+    table: &[usize],
+    out: &mut [u8],
+) -> bool
+    ensures { λ r. ⌜ (r ≡ true → 8 ≤ length (now (said .entry))) ⌝ }
+{
+    if said.len() < 8 {
+        return false;
+    }
+    let rect = PixelRect::new(said[4], said[5], said[6], said[7]);
+    match region(
+        file,
+        d,
+        table,
+        said[0],
+        said[1],
+        said[2],
+        said[3],
+        rect,
+        out,
+    ) {
+        PictureAnswer::Read(p) => read(&said[8..], p, out),
+        PictureAnswer::Refused(r) => refused(&said[8..], r, out),
+    }
+}
+
+// Whether what is said is the answer to what the letter stands for. A letter that stands for nothing differs.
+fn answered(
+    letter: u8,
+    said: &[usize],
+    file: &[u8],
+    d: Description,
+    table: &[usize],
+    out: &mut [u8],
+) -> bool
+    ensures { λ r. ⌜ (r ≡ true → 4 ≤ length (now (said .entry))) ⌝ }
+{
+    if letter == b'p' {
+        return plane_agrees(said, file, d, table, out);
+    }
+    if letter == b'r' {
+        return region_agrees(said, file, d, table, out);
+    }
+    false
+}
+
+// Whether the description and the table that opening the line's file gives lead to the line's answer. A file that isn't opened leads
+// to none.
+pub fn agrees(letter: u8, said: &[usize], file: &[u8]) -> bool
+    ensures { λ r. ⌜ (r ≡ true → 1 ≤ length (now (said .entry))) ⌝ }
+{
+    if said.len() < 1 {
+        return false;
+    }
+    let room = said[0];
+    if ROOM < room {
+        return false;
+    }
+    let mut table = [0usize; WORDS];
+    match open_file(file, &mut table) {
+        OpenAnswer::Opened(o) => {
+            let d = o.description;
+            let words = o.words;
+            if WORDS < words {
+                return false;
+            }
+            let mut out = [BYTE; ROOM];
+            answered(
+                letter,
+                &said[1..],
+                file,
+                d,
+                &table[..words],
+                &mut out[..room],
+            )
+        }
+        OpenAnswer::Refused(_) => false,
+    }
+}
