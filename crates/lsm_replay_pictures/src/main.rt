@@ -53,29 +53,6 @@ impl Tally {
     }
 }
 
-// A line: its letter, whether the answer is as it says, and where the next begins.
-struct Told {
-    letter: u8,
-    agrees: bool,
-    next: usize,
-}
-
-fn told_at(text: &[u8], at: usize) -> Told
-    requires { ⌜ at < length (now text) ⌝ }
-    ensures { λ r. ⌜ (at < r .next) × (r .next ≤ length (now (text .entry))) ⌝ }
-{
-    let mut numbers = [0usize; 1024];
-    let mut bytes = [0u8; 4096];
-    let line = vector_text::line_at(text, at, &mut numbers, &mut bytes);
-    let count = line.count;
-    let len = line.len;
-    Told {
-        letter: line.kind,
-        agrees: agrees(line.kind, &numbers[..count], &bytes[..len]),
-        next: line.next,
-    }
-}
-
 fn compare(text: &[u8]) -> Tally
     ensures { λ r. ⌜ (r .lines ≤ length (now (text .entry))) × (r .planes ≤ r .lines) × (r .agree ≤ r .lines) ⌝ }
 {
@@ -87,9 +64,14 @@ fn compare(text: &[u8]) -> Tally
     };
     let mut at = 0;
     while at < text.len() {
-        let t = told_at(text, at);
-        at = t.next;
-        tally = tally.counted(t.letter == b'p', t.agrees);
+        let mut numbers = [0usize; 1024];
+        let mut bytes = [0u8; 4096];
+        let line = vector_text::line_at(text, at, &mut numbers, &mut bytes);
+        let count = line.count;
+        let len = line.len;
+        let same = agrees(line.kind, &numbers[..count], &bytes[..len]);
+        tally = tally.counted(line.kind == b'p', same);
+        at = line.next;
     }
     tally
 }

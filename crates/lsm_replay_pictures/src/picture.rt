@@ -18,6 +18,7 @@ ghost use mathlib.Core.Bool.{true};
 ghost use Prim.Native.Nat.{_+_, _≤_};
 ghost use lib.ListN.{length};
 ghost use Rattle.lsm_format.specs.Code.{rowOf};
+ghost use Rattle.lsm_replay_pictures.specs.Code.{countOf};
 
 // The largest sample buffer that a line lends, and the words of the table.
 const ROOM: usize = 1024;
@@ -52,6 +53,16 @@ fn refused(said: &[usize], r: Refusal, out: &[u8]) -> bool
     same_front(said, &numbers, len)
 }
 
+// Whether what is said is the answer, with what the sample buffer holds after it.
+fn told(said: &[usize], a: PictureAnswer, out: &[u8]) -> bool
+    ensures { λ r. ⌜ (r ≡ true → length (now (said .entry)) ≡ countOf a) ⌝ }
+{
+    match a {
+        PictureAnswer::Read(p) => read(said, p, out),
+        PictureAnswer::Refused(r) => refused(said, r, out),
+    }
+}
+
 // Whether what is said is the answer to a plane.
 fn plane_agrees(
     said: &[usize],
@@ -65,10 +76,8 @@ fn plane_agrees(
     if said.len() < 4 {
         return false;
     }
-    match plane(file, d, table, said[0], said[1], said[2], said[3], out) {
-        PictureAnswer::Read(p) => read(&said[4..], p, out),
-        PictureAnswer::Refused(r) => refused(&said[4..], r, out),
-    }
+    let a = plane(file, d, table, said[0], said[1], said[2], said[3], out);
+    told(&said[4..], a, out)
 }
 
 // Whether what is said is the answer to a rectangle.
@@ -85,7 +94,7 @@ fn region_agrees(
         return false;
     }
     let rect = PixelRect::new(said[4], said[5], said[6], said[7]);
-    match region(
+    let a = region(
         file,
         d,
         table,
@@ -95,10 +104,8 @@ fn region_agrees(
         said[3],
         rect,
         out,
-    ) {
-        PictureAnswer::Read(p) => read(&said[8..], p, out),
-        PictureAnswer::Refused(r) => refused(&said[8..], r, out),
-    }
+    );
+    told(&said[8..], a, out)
 }
 
 // Whether what is said is the answer to what the letter stands for. A letter that stands for nothing differs.

@@ -11,7 +11,7 @@ returns : tie.Need-returns
 returns c = λ e. let z : _≡_ {A = ℕ} 0 1 = cc in absurd (omega arith)
 
 shared-slice-read-room : tie.Need-shared-slice-read-room
-shared-slice-read-room c = search needs
+shared-slice-read-room c = omega arith
 
 returns-2 : tie.Need-returns-2
 returns-2 c = search needs
@@ -29,22 +29,22 @@ returns-3 : tie.Need-returns-3
 returns-3 c = search needs
 
 sub-answered : tie.Need-sub-answered
-sub-answered c = search needs
+sub-answered c = omega arith
 
 part-answered-start : tie.Need-part-answered-start
-part-answered-start c = search needs
+part-answered-start c = omega arith
 
 part-answered-end : tie.Need-part-answered-end
-part-answered-end c = search needs
+part-answered-end c = omega arith
 
 array-share-prefix-table : tie.Need-array-share-prefix-table
-array-share-prefix-table c = search needs
+array-share-prefix-table c = omega arith
 
 slice-aggregate-answered : tie.Need-slice-aggregate-answered
 slice-aggregate-answered c = taken _ _ (omega arith)
 
 array-borrow-prefix-out : tie.Need-array-borrow-prefix-out
-array-borrow-prefix-out c = search needs
+array-borrow-prefix-out c = omega arith
 
 slice-aggregate-answered-2 : tie.Need-slice-aggregate-answered-2
 slice-aggregate-answered-2 c = taken _ _ (omega arith)

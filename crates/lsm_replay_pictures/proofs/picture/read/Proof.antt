@@ -23,13 +23,13 @@ returns-2 : tie.Need-returns-2
 returns-2 c = λ e. let z : _≡_ {A = ℕ} 0 1 = cc in absurd (omega arith)
 
 sub-same-then-kept : tie.Need-sub-same-then-kept
-sub-same-then-kept c = search needs
+sub-same-then-kept c = omega arith
 
 part-same-then-kept-start : tie.Need-part-same-then-kept-start
-part-same-then-kept-start c = search needs
+part-same-then-kept-start c = omega arith
 
 part-same-then-kept-end : tie.Need-part-same-then-kept-end
-part-same-then-kept-end c = search needs
+part-same-then-kept-end c = omega arith
 
 same-then-kept-requires : tie.Need-same-then-kept-requires
 same-then-kept-requires c κs = search needs
