@@ -8,7 +8,7 @@ def defined(name, src):
     return re.search(r'(?m)(?:^|\s)(?:pub\s+|abbrev\s+|unfoldable\s+|record\s+|data\s+)*' + re.escape(name) + r'\s*(?::|\(|→| \{)', src) or re.search(r'(?:record|data)\s+' + re.escape(name) + r'\b', src)
 spec = {os.path.basename(p)[:-5]: open(p).read() for p in glob.glob('crates/lsm_format/specs/*.antt')}
 allspecs, allproofs = text('crates/*/specs/*.antt'), text('crates/*/proofs/**/*.antt')
-marked = {'Table': text('crates/marked_cases/proofs/Table.antt'), 'Listed': text('crates/marked_cases/proofs/Listed.antt'), 'Second': text('crates/marked_cases/proofs/Second.antt')}
+marked = {name: text(f'crates/marked_cases/proofs/{name}.antt') for name in ('Table', 'Listed', 'Second', 'Handed')}
 programs = {'lsm_replay', 'lsm_replay_open', 'lsm_replay_pictures', 'utf8_vectors', 'lsm_list', 'lsm_list_files'}
 laws = text('crates/*/proofs/*.antt')
 def fn(crate, name):
@@ -55,7 +55,7 @@ for no, line in enumerate(open('docs/PROMISES.md'), 1):
         seg = seg.strip().replace('`', '')
         seg = re.sub(r' for what is written$', '', seg)
         if not seg: continue
-        m = re.match(r'(Table|Listed|Second|law): (.*)', seg)
+        m = re.match(r'(Table|Listed|Second|Handed|law): (.*)', seg)
         if m:
             for name in m[2].split(','):
                 n += 1

@@ -17,9 +17,9 @@ pub mod pictures;
 pub extern "C" fn lsm_open(file: &[u8], table: &mut [usize], answer: &mut [usize; 20]) -> usize
     ensures { λ r. ⌜ OpenedBy (now (file .entry)) (now (table .entry)) (now (table .exit)) (now (answer .exit)) r ⌝ }
 {
-    let words = open_words(open_file(file, table));
-    *answer = words;
-    words[0]
+    let opened = open_words(open_file(file, table));
+    *answer = opened;
+    opened[0]
 }
 
 // The lookup with the description that these words are. No description is refused before anything else.
@@ -43,7 +43,7 @@ pub extern "C" fn lsm_channel(
 ) -> usize
     ensures { λ r. ⌜ LookedUp (now (file .entry)) (now (description .entry)) index (now (name .entry)) (now (name .exit)) (now (answer .exit)) r ⌝ }
 {
-    let words = channel_words(look_up(file, description, index, name));
-    *answer = words;
-    words[0]
+    let found = channel_words(look_up(file, description, index, name));
+    *answer = found;
+    found[0]
 }

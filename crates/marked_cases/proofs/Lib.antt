@@ -1,3 +1,4 @@
 pub mod Table
 pub mod Listed
 pub mod Second
+pub mod Handed

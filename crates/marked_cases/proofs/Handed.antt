@@ -1,0 +1,193 @@
+-- Cases that no file can show: "Description, table and file may come from different places. Plane and region answer from what is given."
+-- Each row stands beside the words of document 01 that decide it, in the order of its checks; the last are the inputs that
+-- docs/DIFFERENCES.md names.
+use Prim.Native.Nat.{ℕ, _+_, _-_, _*_, _^_}
+use mathlib.Core.Path.{_≡_, refl}
+use mathlib.Core.Bool.{true, false}
+use mathlib.Core.List.{List, [], _∷_}
+use mathlib.Core.Option.{none, some}
+use Rattle.lsm_format.specs.Answer.{Result, accepted, refused, bind}
+use Rattle.lsm_format.specs.Words.{word}
+use Rattle.lsm_format.specs.Numbers.{Order, little, big, partAt}
+use Rattle.lsm_format.specs.Sizes.{Kind, u8, u16, f32, pictureSize, unlimitedSize}
+use Rattle.lsm_format.specs.Rectangle.{Rect, coordinates, rectangle}
+use Rattle.lsm_format.specs.Scenes.{pageOf}
+use Rattle.lsm_format.specs.Lent.{lend}
+use Rattle.lsm_format.specs.Calibration.{uncalibrated}
+use Rattle.lsm_format.specs.Channels.{lookup, channelIn, pointers}
+use Rattle.lsm_format.specs.Open.{Description}
+use Rattle.lsm_format.specs.Picture.{Samples, coordinate, plane, planeStrips, channelStrips, inside, total, samplesIn, channelPicture, window, span, picture, bytes, stored, place, each, region, regionStrips, wholeRows, wholePages, wholeChannels, wholeChannel, wholeStrips, rowsIn, windowStrips, into}
+
+-- One time point; so many channels, planes, rows and columns; scenes of so many pages; strips of a channel.
+abbrev described : Kind → ℕ → ℕ → ℕ → ℕ → ℕ → ℕ → ℕ → Description
+described kind c z y x scenes depth strips =
+    record {
+      order = little;
+      kind = kind;
+      dims = record { t = 1; c = c; z = z; y = y; x = x };
+      layout = record { scenes = scenes; depth = depth };
+      stripsPerChannel = strips;
+      calibration = uncalibrated;
+      channelBlock = none;
+    }
+
+-- one scene of one page, one channel in so many strips
+abbrev single : Kind → ℕ → ℕ → ℕ → Description
+single kind y x strips = described kind 1 1 y x 1 1 strips
+
+abbrev rect : ℕ → ℕ → ℕ → ℕ → Rect
+rect x y w h = record { x = x; y = y; w = w; h = h }
+
+abbrev samples : ℕ → ℕ → List ℕ → Result Samples
+samples rows columns bs = accepted (record { rows = rows; columns = columns; bytes = bs })
+
+-- a file of four bytes, which is all that is handed in as one
+abbrev four : List ℕ
+four = 10 ∷ 11 ∷ 12 ∷ 13 ∷ []
+
+-- ---- plane
+
+plane-order :
+    -- "Plane: scene": 5, whatever else is wrong
+    (plane (single u8 (2 ^ 40) (2 ^ 40) 0) [] four 1 1 1 1 ≡ refused (5 ∷ 1 ∷ 1 ∷ []))
+    -- "t, c, z": 6, although the picture is oversized
+    × (plane (single u8 (2 ^ 40) 1 0) [] four 0 0 1 0 ≡ refused (6 ∷ 0 ∷ 0 ∷ 1 ∷ 0 ∷ []))
+    × (plane (single u8 (2 ^ 40) 1 0) [] four 0 1 0 0 ≡ refused (6 ∷ 0 ∷ 1 ∷ 0 ∷ 0 ∷ []))
+    × (plane (single u8 (2 ^ 40) 1 0) [] four 0 0 0 1 ≡ refused (6 ∷ 0 ∷ 0 ∷ 0 ∷ 1 ∷ []))
+    -- "size": 4, although there is no page
+    × (plane (single u8 (2 ^ 40) 1 0) [] four 0 0 0 0 ≡ refused (4 ∷ 2 ^ 40 ∷ 4294967296 ∷ []))
+    -- "a size that overflows (requested 2^64 − 1)"
+    × (plane (single u16 (2 ^ 32) (2 ^ 32) 0) [] four 0 0 0 0 ≡ refused (4 ∷ (2 ^ 64 - 1) ∷ 4294967296 ∷ []))
+    -- the largest picture that a file can announce
+    × (plane (single f32 (2 ^ 31 - 1) (2 ^ 31 - 1) 1) (0 ∷ 1 ∷ []) four 0 0 0 0 ≡ refused (4 ∷ 18446744056529682436 ∷ 4294967296 ∷ []))
+    -- "page": "A page number that overflows [..] is 6"
+    × (plane (described u8 1 1 1 1 3 (2 ^ 63) 1) (0 ∷ 1 ∷ []) four 2 0 0 0 ≡ refused (6 ∷ 2 ∷ 0 ∷ 0 ∷ 0 ∷ []))
+    -- "no strips per page": 6, also for a picture of no bytes
+    × (plane (single u8 1 1 0) (0 ∷ 1 ∷ []) four 0 0 0 0 ≡ refused (6 ∷ 0 ∷ 0 ∷ 0 ∷ 0 ∷ []))
+    × (plane (single u8 0 1 0) (0 ∷ 1 ∷ []) four 0 0 0 0 ≡ refused (6 ∷ 0 ∷ 0 ∷ 0 ∷ 0 ∷ []))
+    -- "a page not wholly in the table": channel 0 has its strip there, channel 1 lacks a word
+    × (plane (described u8 2 1 1 1 1 1 1) (0 ∷ 1 ∷ 0 ∷ []) four 0 0 0 0 ≡ refused (6 ∷ 0 ∷ 0 ∷ 0 ∷ 0 ∷ []))
+    -- "(reckoned exactly)": strips whose words are 2 ^ 64 in all are not the table of no words
+    × (plane (described u8 (2 ^ 32) 1 1 1 1 1 (2 ^ 31)) [] four 0 0 0 0 ≡ refused (6 ∷ 0 ∷ 0 ∷ 0 ∷ 0 ∷ []))
+    -- "a strip whose offset plus length overflows is 2"
+    × (plane (single u8 1 1 1) ((2 ^ 64 - 1) ∷ 1 ∷ []) four 0 0 0 0 ≡ refused (2 ∷ []))
+    -- "each within the file"
+    × (plane (single u8 1 2 1) (3 ∷ 2 ∷ []) four 0 0 0 0 ≡ refused (2 ∷ []))
+    -- "then within the picture's size; their total": one byte too many, one too few
+    × (plane (single u8 1 2 1) (0 ∷ 3 ∷ []) four 0 0 0 0 ≡ refused (2 ∷ []))
+    × (plane (single u8 1 2 1) (0 ∷ 1 ∷ []) four 0 0 0 0 ≡ refused (2 ∷ []))
+    -- "buffer last"
+    × (into (plane (single u8 1 2 1) (1 ∷ 2 ∷ []) four 0 0 0 0) 1 ≡ refused (7 ∷ 2 ∷ []))
+    × (into (plane (single u8 1 2 1) (1 ∷ 2 ∷ []) four 0 0 0 0) 2 ≡ samples 1 2 (11 ∷ 12 ∷ []))
+unfolding plane into lend coordinate coordinates planeStrips pictureSize unlimitedSize word channelStrips pageOf inside total samplesIn channelPicture window span picture bytes stored place each bind
+plane-order = (refl, refl, refl, refl, refl, refl, refl, refl, refl, refl, refl, refl, refl, refl, refl, refl, refl, refl)
+
+-- ---- the picture
+
+joined :
+    -- "the channel's joined strips": three bytes, then one, in rows of two
+    (plane (single u8 2 2 2) (1 ∷ 3 ∷ 0 ∷ 1 ∷ []) four 0 0 0 0 ≡ samples 2 2 (11 ∷ 12 ∷ 13 ∷ 10 ∷ []))
+    -- a rectangle across them
+    × (region (single u8 2 2 2) (1 ∷ 3 ∷ 0 ∷ 1 ∷ []) four 0 0 0 0 (rect 1 0 1 2) ≡ samples 2 1 (12 ∷ 10 ∷ []))
+    -- a sample that two strips share
+    × (plane (single u16 1 2 2) (0 ∷ 3 ∷ 3 ∷ 1 ∷ []) four 0 0 0 0 ≡ samples 1 2 (10 ∷ 11 ∷ 12 ∷ 13 ∷ []))
+    -- the second channel's strip; the second page's
+    × (plane (described u8 2 1 1 1 1 1 1) (0 ∷ 1 ∷ 3 ∷ 1 ∷ []) four 0 0 1 0 ≡ samples 1 1 (13 ∷ []))
+    × (plane (described u8 1 1 1 1 2 1 1) (0 ∷ 1 ∷ 3 ∷ 1 ∷ []) four 1 0 0 0 ≡ samples 1 1 (13 ∷ []))
+unfolding plane region coordinate coordinates rectangle planeStrips regionStrips windowStrips wholeRows wholePages wholeChannels wholeChannel wholeStrips rowsIn pictureSize unlimitedSize word channelStrips pageOf inside total samplesIn channelPicture window span picture bytes stored place each bind
+joined = (refl, refl, refl, refl, refl)
+
+-- the same description in big-endian order
+abbrev turned : Description → Description
+turned d =
+    record {
+      order = big;
+      kind = d .kind;
+      dims = d .dims;
+      layout = d .layout;
+      stripsPerChannel = d .stripsPerChannel;
+      calibration = d .calibration;
+      channelBlock = d .channelBlock;
+    }
+
+-- "little-endian whatever the file's order"
+turned-round :
+    (plane (turned (single u16 1 2 2)) (0 ∷ 3 ∷ 3 ∷ 1 ∷ []) four 0 0 0 0 ≡ samples 1 2 (11 ∷ 10 ∷ 13 ∷ 12 ∷ []))
+    × (region (turned (single u16 1 2 2)) (0 ∷ 3 ∷ 3 ∷ 1 ∷ []) four 0 0 0 0 (rect 1 0 1 1) ≡ samples 1 1 (13 ∷ 12 ∷ []))
+    × (plane (turned (single f32 1 1 1)) (0 ∷ 4 ∷ []) four 0 0 0 0 ≡ samples 1 1 (13 ∷ 12 ∷ 11 ∷ 10 ∷ []))
+unfolding plane region coordinate coordinates rectangle planeStrips regionStrips windowStrips wholeRows wholePages wholeChannels wholeChannel wholeStrips rowsIn pictureSize unlimitedSize word channelStrips pageOf inside total samplesIn channelPicture window span picture bytes stored place each bind
+turned-round = (refl, refl, refl)
+
+-- ---- region
+
+region-order :
+    -- "Region: scene; t, c, z"
+    (region (single u8 1 2 0) [] four 1 0 1 0 (rect 3 0 1 1) ≡ refused (5 ∷ 1 ∷ 1 ∷ []))
+    × (region (single u8 1 2 0) [] four 0 0 1 0 (rect 3 0 1 1) ≡ refused (6 ∷ 0 ∷ 0 ∷ 1 ∷ 0 ∷ []))
+    -- "rectangle": 2 before size and page; one whose end passes the picture, one whose end overflows
+    × (region (single u8 1 (2 ^ 40) 0) [] four 0 0 0 0 (rect (2 ^ 40) 0 1 1) ≡ refused (2 ∷ []))
+    × (region (single u8 1 (2 ^ 40) 0) [] four 0 0 0 0 (rect (2 ^ 64 - 1) 0 1 1) ≡ refused (2 ∷ []))
+    × (region (single u8 1 (2 ^ 40) 0) [] four 0 0 0 0 (rect 0 1 1 1) ≡ refused (2 ∷ []))
+    -- "empty": accepted, although the picture is oversized and there is no page; not past the picture
+    × (region (single u8 1 (2 ^ 40) 0) [] four 0 0 0 0 (rect (2 ^ 40) 0 0 1) ≡ samples 1 0 [])
+    × (region (single u8 1 (2 ^ 40) 0) [] four 0 0 0 0 (rect 0 1 5 0) ≡ samples 0 5 [])
+    × (region (single u8 1 2 0) [] four 0 0 0 0 (rect 3 0 0 1) ≡ refused (2 ∷ []))
+    -- "otherwise all of plane's checks": size first, although the rectangle is small
+    × (region (single u8 1 (2 ^ 40) 1) (0 ∷ 4 ∷ []) four 0 0 0 0 (rect 0 0 1 1) ≡ refused (4 ∷ 2 ^ 40 ∷ 4294967296 ∷ []))
+    -- a strip of this channel outside the file, although no sample of the rectangle is in it
+    × (region (single u8 2 1 2) (0 ∷ 1 ∷ 4 ∷ 1 ∷ []) four 0 0 0 0 (rect 0 0 1 1) ≡ refused (2 ∷ []))
+    -- strips outside the file of another channel and another page do no harm
+    × (region (described u8 2 1 1 1 2 1 1) (3 ∷ 1 ∷ 9 ∷ 1 ∷ 9 ∷ 1 ∷ 9 ∷ 1 ∷ []) four 0 0 0 0 (rect 0 0 1 1) ≡ samples 1 1 (13 ∷ []))
+    -- where every page's strips hold whole rows: the rectangle's size, then the page, then the strips
+    × (region (single u8 2 (2 ^ 33) 2) (0 ∷ 2 ^ 33 ∷ 0 ∷ 2 ^ 33 ∷ []) four 0 0 0 0 (rect 0 0 (2 ^ 33) 1) ≡ refused (4 ∷ 2 ^ 33 ∷ 4294967296 ∷ []))
+    × (region (single u8 2 (2 ^ 33) 2) (0 ∷ 2 ^ 33 ∷ 0 ∷ 2 ^ 33 ∷ []) four 0 0 0 0 (rect 0 0 1 1) ≡ refused (2 ∷ []))
+    -- "buffer last"
+    × (into (region (single u8 1 2 1) (1 ∷ 2 ∷ []) four 0 0 0 0 (rect 1 0 1 1)) 0 ≡ refused (7 ∷ 1 ∷ []))
+    × (into (region (single u8 1 2 1) (1 ∷ 2 ∷ []) four 0 0 0 0 (rect 1 0 0 1)) 0 ≡ samples 1 0 [])
+unfolding region into lend coordinate coordinates rectangle planeStrips regionStrips windowStrips wholeRows wholePages wholeChannels wholeChannel wholeStrips rowsIn pictureSize unlimitedSize word channelStrips pageOf inside total samplesIn channelPicture window span picture bytes stored place each bind
+region-order = (refl, refl, refl, refl, refl, refl, refl, refl, refl, refl, refl, refl, refl, refl, refl)
+
+-- ---- the whole-row test
+
+whole-row-test :
+    -- two rows of two in strips of one row each; in one strip
+    (wholeRows (single u8 2 2 2) (0 ∷ 2 ∷ 2 ∷ 2 ∷ []) ≡ true)
+    × (wholeRows (single u8 2 2 1) (0 ∷ 4 ∷ []) ≡ true)
+    -- "each strip's bytes to be a multiple of width × sample size"
+    × (wholeRows (single u8 2 2 2) (0 ∷ 3 ∷ 3 ∷ 1 ∷ []) ≡ false)
+    -- "each channel's rows to add up to the height"
+    × (wholeRows (single u8 2 2 1) (0 ∷ 6 ∷ []) ≡ false)
+    × (wholeRows (described u8 2 1 2 2 1 1 1) (0 ∷ 4 ∷ 0 ∷ 2 ∷ []) ≡ false)
+    -- "a row of 0 bytes means no"
+    × (wholeRows (single u8 0 0 1) (0 ∷ 0 ∷ []) ≡ false)
+    -- "It runs over pages 0 to scenes × depth − 1": the second page's strip is short; "a page missing from the table"
+    × (wholeRows (described u8 1 2 2 2 1 2 1) (0 ∷ 4 ∷ 0 ∷ 2 ∷ []) ≡ false)
+    × (wholeRows (described u8 1 2 2 2 1 2 1) (0 ∷ 4 ∷ []) ≡ false)
+    -- "or an overflow, means no": of the row's bytes; of the pages
+    × (wholeRows (single u16 1 (2 ^ 63) 1) (0 ∷ 2 ^ 64 ∷ []) ≡ false)
+    × (wholeRows (described u8 1 1 1 1 (2 ^ 32) (2 ^ 32) 1) (0 ∷ 1 ∷ []) ≡ false)
+unfolding wholeRows wholePages wholeChannels wholeChannel wholeStrips rowsIn
+whole-row-test = (refl, refl, refl, refl, refl, refl, refl, refl, refl, refl)
+
+-- ---- channel lookup
+
+lookups :
+    -- "Channel lookup (added) checks the channel": 6 with scene, t and z 0
+    (lookup little four (some 0) 2 2 0 ≡ refused (6 ∷ 0 ∷ 0 ∷ 2 ∷ 0 ∷ []))
+    -- "If either can't be read, every channel lacks both": a block at the end of the file, and one behind the largest place
+    × (lookup little four (some 4) 2 1 0 ≡ accepted (record { color = none; name = none }))
+    × (lookup little four (some (2 ^ 64 - 1)) 2 1 0 ≡ accepted (record { color = none; name = none }))
+    × (lookup little four none 2 1 0 ≡ accepted (record { color = none; name = none }))
+unfolding lookup lend channelIn pointers partAt bind
+lookups = (refl, refl, refl, refl)
+
+-- ---- the inputs of docs/DIFFERENCES.md
+
+differences :
+    -- a channel's rows that pass 64 bits: the whole-row test says no
+    (region (single u8 (2 ^ 33) 1 2) (0 ∷ (2 ^ 64 - 1) ∷ 0 ∷ (2 ^ 33 + 1) ∷ []) four 0 0 0 0 (rect 0 0 1 1) ≡ refused (4 ∷ 8589934592 ∷ 4294967296 ∷ []))
+    -- a page past scenes × depth whose own strips don't hold whole rows: all of plane's checks
+    × (region (described u8 1 2 1 2 1 1 1) (0 ∷ 2 ∷ 0 ∷ 3 ∷ []) four 0 0 0 1 (rect 0 0 2 1) ≡ refused (2 ∷ []))
+    × (region (described u8 1 2 1 (2 ^ 33) 1 1 1) (0 ∷ 2 ^ 33 ∷ 0 ∷ 3 ∷ []) four 0 0 0 1 (rect 0 0 1 1) ≡ refused (4 ∷ 8589934592 ∷ 4294967296 ∷ []))
+unfolding region coordinate coordinates rectangle planeStrips regionStrips windowStrips wholeRows wholePages wholeChannels wholeChannel wholeStrips rowsIn pictureSize unlimitedSize word channelStrips pageOf inside total samplesIn channelPicture window span picture bytes stored place each bind
+differences = (refl, refl, refl)
