@@ -12,6 +12,10 @@ use Rattle.utf8.specs.Pieces.{pieceAt, taken, given, textAt}
 use Rattle.utf8.proofs.Lists.{take-put}
 use Rattle.utf8.proofs.Pieces.{after-le}
 
+-- what `bytes::copy` leaves in memory that is as long as what it copies
+pub copied : (src dst : List ℕ) {out : List ℕ} → length dst ≡ length src → out ≡ take (length src) src ++ drop (length src) dst → out ≡ src
+copied src dst e q = q ∙ (rw (take-all (length src) src (omega arith), drop-of-length-le dst {i = length src} (omega arith), append-nil))
+
 -- as much fuel as bytes, or more, makes no difference
 fuel : (n m : ℕ) (bs : List ℕ) → length bs ≤ n → length bs ≤ m → lossyBy n bs ≡ lossyBy m bs
 unfolding lossyBy

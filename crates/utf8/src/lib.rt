@@ -144,18 +144,6 @@ pub fn lossy_length(s: &[u8]) -> usize
     total
 }
 
-// The bytes of `src`, into a `dst` of the same length.
-fn copy(src: &[u8], dst: &mut [u8])
-    requires { ⌜ length (now dst) ≡ length (now src) ⌝ }
-    ensures { λ r. ⌜ now (dst .exit) ≡ now (src .entry) ⌝ }
-{
-    let mut i = 0;
-    while i < src.len() {
-        dst[i] = src[i];
-        i += 1;
-    }
-}
-
 // Fills `out` with what comes out of the piece at a place.
 fn put(s: &[u8], at: usize, p: Piece, out: &mut [u8])
     requires { ⌜ at < length (now s) ⌝ }
@@ -164,8 +152,12 @@ fn put(s: &[u8], at: usize, p: Piece, out: &mut [u8])
     ensures { λ r. ⌜ now (out .exit) ≡ textAt (now (s .entry)) at ⌝ }
 {
     match p {
-        Piece::Sequence(n) => copy(&s[at..at + n + 1], out),
-        Piece::Subpart(_) => copy(b"\xEF\xBF\xBD", out),
+        Piece::Sequence(n) => {
+            bytes::copy(&s[at..at + n + 1], out);
+        }
+        Piece::Subpart(_) => {
+            bytes::copy(b"\xEF\xBF\xBD", out);
+        }
     }
 }
 

@@ -5,7 +5,7 @@ use borrow.Author.Needs.{needs}
 use lib.ListN.{length-take, length-drop}
 use Rattle.utf8.specs.Pieces.{pieceOf, taken, given}
 use Rattle.utf8.specs.declared.Piece.{Piece}
-use Rattle.utf8.proofs.Text.{text-whole, text-part}
+use Rattle.utf8.proofs.Text.{copied, text-whole, text-part}
 use Rattle.utf8.proofs.put.Statement.{statement}
 use Rattle.utf8.proofs.put.Tie as tie
 
@@ -39,20 +39,32 @@ slice-aggregate-copy : tie.Need-slice-aggregate-copy
 slice-aggregate-copy c = search needs
 
 copy-requires-2 : tie.Need-copy-requires-2
-copy-requires-2 c κs = c .before .before .before .before .before .before .pre .1 .1 ∙ ap (λ (q : Piece). given (pieceOf q)) (c .before .before .enum-told .given .1)
+copy-requires-2 c κs = omega (arith, c .before .before .before .before .before .before .pre .1 .1 ∙ ap (λ (q : Piece). given (pieceOf q)) (c .before .before .enum-told .given .1))
 
 same-length : tie.Need-same-length
 same-length c = search needs
 
 returns : tie.Need-returns
 returns c =
-    c .before .before .copy .ensures ∙ text-whole _ _ _ (c .before .before .before .before .before .before .before .before .before .before .pre .0) (sym (ap pieceOf (c .before .before .before .before .before .before .p .given .1)) ∙ c .before .before .before .before .before .before .before .before .before .before .pre .1 .0 .is)
+    let t = c .before .before .before .before .before .before in
+    let p = t .before .before .before .before .pre in
+    let is = t .p .given .1 in
+    let g = ap (λ (q : Piece). given (pieceOf q)) is in
+    let n = ap (λ (q : Piece). taken (pieceOf q)) is in
+    copied _ _ (rw (length-take, length-drop) (omega (arith, p .1 .1, p .1 .0 .inside, g, n))) (c .before .before .copy .ensures .1)
+    ∙ text-whole _ _ _ (p .0) (sym (ap pieceOf is) ∙ p .1 .0 .is)
 
 same-length-2 : tie.Need-same-length-2
 same-length-2 c = search needs
 
 returns-2 : tie.Need-returns-2
-returns-2 c = c .before .before .copy2 .ensures ∙ text-part _ _ _ (sym (ap pieceOf (c .before .before .before .before .before .enum-told .given .1)) ∙ c .before .before .before .before .before .before .before .before .before .pre .1 .0 .is)
+returns-2 c =
+    let t = c .before .before .before .before .before in
+    let p = t .before .before .before .before .pre in
+    let is = t .enum-told .given .1 in
+    let g = ap (λ (q : Piece). given (pieceOf q)) is in
+    copied _ (t .before .before .before .before .args .out .now) (p .1 .1 ∙ g) (c .before .before .copy2 .ensures .1)
+    ∙ text-part _ _ _ (sym (ap pieceOf is) ∙ p .1 .0 .is)
 
 pub put-spec : {M : Type 1} → statement M
 put-spec =
