@@ -2,7 +2,6 @@
 // its bytes. tools/list_files.py makes them.
 use libc::STDIN_FILENO;
 use lsm_printout::print;
-ghost use mathlib.Core.Path.{_≡_};
 ghost use Prim.Native.Nat.{_+_, _≤_, _<_};
 ghost use lib.ListN.{length};
 
@@ -24,7 +23,7 @@ fn wide(b: u8) -> usize
 }
 
 // Lists the file at a place, and answers where the next begins: at the end where there is no whole file.
-fn next(all: &[u8], at: usize, out: &mut [u8]) -> usize
+fn next(all: &[u8], at: usize) -> usize
     requires { ⌜ at < length (now all) ⌝ }
     ensures { λ r. ⌜ (at < r) × (r ≤ length (now (all .entry))) ⌝ }
 {
@@ -37,22 +36,19 @@ fn next(all: &[u8], at: usize, out: &mut [u8]) -> usize
         return all.len();
     }
     let end = start + len;
-    print(&all[start..end], out);
+    print(&all[start..end]);
     end
 }
 
-fn list_all(all: &[u8], out: &mut [u8])
-    ensures { λ _. ⌜ length (now (out .exit)) ≡ length (now (out .entry)) ⌝ }
-{
+fn list_all(all: &[u8]) {
     let mut at = 0;
     while at < all.len() {
-        at = next(all, at, out);
+        at = next(all, at);
     }
 }
 
 fn main() {
     let mut all = [0u8; 262144];
     let n = io::read_full(STDIN_FILENO, &mut all);
-    let mut out = [0u8; 524288];
-    list_all(&all[..n], &mut out);
+    list_all(&all[..n]);
 }

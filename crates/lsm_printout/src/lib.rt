@@ -13,6 +13,8 @@ use printout_lines::put_scenes;
 use printout_sizes::put_notes;
 use printout_sizes::put_pixel;
 use printout_text::put_bytes;
+ghost use mathlib.Core.Path.{_≡_};
+ghost use lib.ListN.{length};
 ghost use Rattle.lsm_format.specs.Printout.{text, headLines, acceptedLines, channelsOf, printout};
 ghost use Rattle.lsm_description.specs.Code.{descriptionOf};
 ghost use Rattle.lsm_reader.specs.Opening.{openedOf};
@@ -77,13 +79,12 @@ pub fn list(buf: &[u8], out: &mut [u8]) -> usize
     put_answer(out, 0, buf, answer)
 }
 
-// Lists a file and writes its printout to standard output; nothing where it has no room.
-pub fn print(buf: &[u8], out: &mut [u8]) -> usize
-    ensures { λ r. ⌜ Listed (printout (now (buf .entry))) (now (out .entry)) (now (out .exit)) r ⌝ }
+// Lists a file and writes its printout to standard output; answers its length. Every printout has room in `out`.
+pub fn print(buf: &[u8]) -> usize
+    ensures { λ r. ⌜ r ≡ length (printout (now (buf .entry))) ⌝ }
 {
-    let n = list(buf, out);
-    if n <= out.len() {
-        io::write_all(STDOUT_FILENO, &out[..n]);
-    }
+    let mut out = [0u8; 524288];
+    let n = list(buf, &mut out);
+    io::write_all(STDOUT_FILENO, &out[..n]);
     n
 }

@@ -1,16 +1,15 @@
 -- `lsm_list_files::list_all` meets its contract. The measure is what is left. Assumes nothing.
 use Prim.Native.Nat.{_≤_, _-_}
-use mathlib.Core.Path.{_≡_}
 use lib.ListN.{length}
 use borrow.Author.Needs.{needs}
 use Rattle.lsm_list_files.proofs.list_all.Statement.{statement}
 use Rattle.lsm_list_files.proofs.list_all.Tie as tie
 
 abbrev Inv-loop : tie.InvT-loop
-Inv-loop all out₀ at₀ out at = (at ≤ length all) × (length out ≡ length out₀)
+Inv-loop all at₀ at = at ≤ length all
 
 abbrev μ-loop : tie.MeasureT-loop
-μ-loop all out₀ at₀ out at = length all - at
+μ-loop all at₀ at = length all - at
 
 loop-holds : tie.Need-loop-holds Inv-loop μ-loop
 loop-holds c = search needs
@@ -24,13 +23,10 @@ loop-less c = search needs
 loop-again : tie.Need-loop-again Inv-loop μ-loop
 loop-again c = search needs
 
-same-length : tie.Need-same-length Inv-loop μ-loop
-same-length c = search needs
-
 returns : tie.Need-returns Inv-loop μ-loop
 returns c = search needs
 
 pub list-all-spec : {M : Type 1} → statement M
 list-all-spec =
     tie.close
-    (tie.spec Inv-loop μ-loop loop-holds next-requires loop-less loop-again same-length returns)
+    (tie.spec Inv-loop μ-loop loop-holds next-requires loop-less loop-again returns)

@@ -1,43 +1,38 @@
--- `lsm_printout::print` meets its contract: what is written is the part that is told. Assumes nothing.
+-- `lsm_printout::print` meets its contract: every printout of bytes has room in `out`, so that what is written is all of it. Assumes nothing.
+use native.Mathlib.Omega.{arith}
 use mathlib.Core.Path.{sym}
 use lib.Seq.{length-take-le}
+use Rattle.lsm_format.specs.Printout.{printout}
+use Rattle.lsm_printout.proofs.Whole.{Whole, printout-whole}
 use borrow.Author.Needs.{needs}
 use Rattle.lsm_printout.proofs.print.Statement.{statement}
 use Rattle.lsm_printout.proofs.print.Tie as tie
 
+slice-aggregate-list : tie.Need-slice-aggregate-list
+slice-aggregate-list c = search needs
+
+-- what `list` has put there
+known : (c : tie.After-list) → Whole (printout (c .before .before .before .args .buf .now)) (c .list .last .1 .0) (c .list .result)
+known c =
+    printout-whole (c .before .before .before .args .buf .now) _ _ (λ i. omega (arith, c .before .before .shared-slice-known .given i))
+    (slice-aggregate-list (c .before)) (omega arith) (c .list .ensures)
+
 list-requires : tie.Need-list-requires
 list-requires c κs = search needs
 
-slice-reshare-prefix-write-all : tie.Need-slice-reshare-prefix-write-all
-slice-reshare-prefix-write-all c = search needs
+array-share-prefix-out : tie.Need-array-share-prefix-out
+array-share-prefix-out c = known (c .before) .inside
 
 slice-aggregate-write-all : tie.Need-slice-aggregate-write-all
-slice-aggregate-write-all c = sym (length-take-le _ _ (search needs))
+slice-aggregate-write-all c = sym (length-take-le _ _ (known (c .before .before) .inside))
 
 write-all-requires : tie.Need-write-all-requires
 write-all-requires c κs = search needs
 
-same-length : tie.Need-same-length
-same-length c = search needs
-
 returns : tie.Need-returns
-returns c = search needs
-
-same-length-2 : tie.Need-same-length-2
-same-length-2 c = search needs
-
-returns-2 : tie.Need-returns-2
-returns-2 c = search needs
+returns c = known (c .before .before .before) .count
 
 pub print-spec : {M : Type 1} → statement M
 print-spec =
     tie.close
-    (tie.spec
-    list-requires
-    slice-reshare-prefix-write-all
-    slice-aggregate-write-all
-    write-all-requires
-    same-length
-    returns
-    same-length-2
-    returns-2)
+    (tie.spec slice-aggregate-list list-requires array-share-prefix-out slice-aggregate-write-all write-all-requires returns)

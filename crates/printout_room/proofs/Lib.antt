@@ -1,0 +1,5 @@
+pub mod Lengths
+pub mod Names
+pub mod Refusals
+pub mod Described
+pub mod Room
