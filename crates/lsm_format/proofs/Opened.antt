@@ -1,5 +1,5 @@
 -- What holds of every file that opens: it has a header, and its table holds as many pages as its description has. Assumes nothing.
-use Prim.Native.Nat.{ℕ, _*_, _/_, _%_, _≤_, max}
+use Prim.Native.Nat.{ℕ, _*_, _/_, _%_, _≤_, _<_, max}
 use native.Mathlib.Nat.{div-add-mod', mul-comm}
 use native.Mathlib.Omega.{arith}
 use mathlib.Core.Bool.{true, not, _&&_}
@@ -9,7 +9,7 @@ use mathlib.Core.List.{List}
 use lib.Dec.{leb, eqb}
 use lib.IntN.{ℤ}
 use lib.ListN.{length}
-use borrow.Author.Tests.{leb-true, eqb-true}
+use borrow.Author.Tests.{leb-true, eqb-true, eqb-false, not-true}
 use Rattle.lsm_format.specs.Answer.{parse, decode}
 use Rattle.lsm_format.specs.Words.{word}
 use Rattle.lsm_format.specs.Numbers.{Order}
@@ -23,9 +23,10 @@ use Rattle.lsm_format.proofs.Words.{word-some}
 use Rattle.lsm_format.proofs.Accepting.{Accepting, accepting-bind, accepting-then, accepting-need, accepting-given, both-hold}
 use Rattle.lsm_format.proofs.Pages.{Even, walk-even}
 
--- The table has the words of every page of the description, whose planes are as many as each scene's pages.
+-- The table has the words of every page of the description, whose planes are as many as each scene's pages; no page is without a strip.
 pub record Fits (d : Description) (table : List ℕ) : Type 0 where
   pub deep : d .dims .z ≡ d .layout .depth
+  pub strips : 0 < stripsPerPage d
   pub words : length table ≡ d .layout .scenes * d .layout .depth * stripsPerPage d * 2
 
 -- "strips per channel": the strips of a page are shared out evenly
@@ -37,6 +38,12 @@ unfolding shares
 shared n channels t =
     let even : n % channels ≡ 0 = eqb-true _ _ (both-hold (not (eqb n 0)) (eqb (n % channels) 0) t .1) in
     omega (arith, div-add-mod' n channels, mul-comm channels (n / channels))
+
+shares-some : (n channels : ℕ) → shares n channels → 0 < n
+unfolding shares
+shares-some n channels t =
+    let some : n ≡ 0 → ⊥ = eqb-false n 0 (not-true (eqb n 0) (both-hold (not (eqb n 0)) (eqb (n % channels) 0) t .0)) in
+    omega arith
 
 agreement-shares : (p : Directory) (i : CzInfo) →
     Accepting (λ (u : Unit {0}). shares (length (p .offsets)) (max 1 (p .samples))) (agreement p i)
@@ -63,7 +70,8 @@ unfolding describe Accepting
 describe-fits o k p pages i table e =
     accepting-bind _ _ _ _ (agreement-shares p i) (λ _ s.
     accepting-bind _ _ _ _ (layout-pages i pages) (λ l h.
-    record { deep = sym (h .0); words = rw (shared (length (p .offsets)) (max 1 (p .samples)) s, ← h .1) e }))
+    let all = shared (length (p .offsets)) (max 1 (p .samples)) s in
+    record { deep = sym (h .0); strips = rw all (shares-some (length (p .offsets)) (max 1 (p .samples)) s); words = rw (all, ← h .1) e }))
 
 walk-fits : (o : Order) (f : List ℕ) (w : Walk) → Even (w .first) (w .pages) →
     Accepting (λ (d : Description). Fits d (tableWords (w .pages))) (describeWalk o f w)

@@ -1,15 +1,15 @@
 -- How large the numbers are that opening gives with a strip table of 4,096 words. Assumes nothing.
-use Prim.Native.Nat.{ℕ, zero, suc, _+_, _*_, _/_, _%_, _^_, _≤_, _<_, max}
-use native.Mathlib.Nat.{div-add-mod', mul-comm, le-mul-of-pos-right, mul-pos}
+use Prim.Native.Nat.{ℕ, zero, suc, _+_, _*_, _^_, _≤_, _<_}
+use native.Mathlib.Nat.{le-mul-of-pos-right, mul-pos}
 use native.Mathlib.Omega.{arith}
-use mathlib.Core.Bool.{Bool, true, false, not, _&&_}
+use mathlib.Core.Bool.{Bool, true, false, _&&_}
 use mathlib.Core.Path.{_≡_, refl}
 use mathlib.Core.List.{List, [], _∷_}
 use lib.Dec.{leb, ltb, eqb}
 use lib.IntN.{ℤ}
 use lib.ListN.{length, getD}
-use borrow.Author.Tests.{leb-true, leb-false, ltb-true, ltb-false, eqb-true, eqb-false, not-true}
-use Rattle.lsm_format.specs.Answer.{accepted, decode, tooShort}
+use borrow.Author.Tests.{leb-true, leb-false, ltb-true, ltb-false, eqb-true}
+use Rattle.lsm_format.specs.Answer.{Result, accepted, refused, decode, tooShort}
 use Rattle.lsm_format.specs.Numbers.{Order, little, big, valueOf, numberAt, i32At, signed32}
 use Rattle.lsm_format.specs.Sizes.{Kind}
 use Rattle.lsm_format.specs.Scenes.{Layout, layout, scenes}
@@ -19,26 +19,19 @@ use Rattle.lsm_format.specs.Directory.{Directory}
 use Rattle.lsm_format.specs.Open.{Description, Opened, agreement, layoutFor, describe, describeWalk, read, openFile}
 use Rattle.lsm_format.specs.Picture.{stripsPerPage}
 use Rattle.lsm_format.proofs.Numbers.{number-past, number-there, signed-low, signed-high, less-than-all}
-use Rattle.lsm_format.proofs.Accepting.{Accepting, accepting-bind, accepting-then, accepting-need, accepting-map, accepting-self, accepting-told, both-hold}
+use Rattle.lsm_format.proofs.Accepting.{Accepting, accepting-bind, accepting-then, accepting-need, accepting-self, accepting-told, both-hold}
 use Rattle.lsm_format.proofs.Opened.{Fits, read-fits}
 
 -- ---- numbers in a file of bytes
 
+-- every element is a byte
 abbrev pub Bytes : List ℕ → Type 0
 Bytes f = (i : ℕ) → getD f i 0 < 256
 
+-- four bytes make a number of 32 bits
 four : (o : Order) (a b c d : ℕ) → a < 256 → b < 256 → c < 256 → d < 256 → valueOf o (a ∷ b ∷ c ∷ d ∷ []) < 2 ^ 32
 four little a b c d h i j k = omega arith
 four big a b c d h i j k = omega arith
-
-module _ (f : List ℕ) (bytes : Bytes f) where
-  number-by : (t : Bool) (o : Order) (at : ℕ) → leb (at + 4) (length f) ≡ t → Accepting (λ (n : ℕ). n < 2 ^ 32) (numberAt 4 o f at)
-  unfolding Accepting
-  number-by true o at e = rw (number-there 4 o f at (leb-true _ _ e)) (four o _ _ _ _ (bytes at) (bytes (at + 1)) (bytes (at + 2)) (bytes (at + 3)))
-  number-by false o at e = rw (number-past 4 o f at (leb-false _ _ e)) tt
-
-  number-small : (o : Order) (at : ℕ) → Accepting (λ (n : ℕ). n < 2 ^ 32) (numberAt 4 o f at)
-  number-small o at = number-by (leb (at + 4) (length f)) o at refl
 
 -- a signed number that is not below 0 is the same; one that is has no size
 signed-by : (t : Bool) (n : ℕ) → ltb n (2 ^ 31) ≡ t → n < 2 ^ 32 → size (signed32 n) < 2 ^ 32
@@ -49,9 +42,17 @@ signed-small : (n : ℕ) → n < 2 ^ 32 → size (signed32 n) < 2 ^ 32
 signed-small n h = signed-by (ltb n (2 ^ 31)) n refl h
 
 module _ (f : List ℕ) (bytes : Bytes f) where
+  number-by : (t : Bool) (o : Order) (at : ℕ) → leb (at + 4) (length f) ≡ t → Accepting (λ (n : ℕ). n < 2 ^ 32) (numberAt 4 o f at)
+  unfolding Accepting
+  number-by true o at e = rw (number-there 4 o f at (leb-true _ _ e)) (four o _ _ _ _ (bytes at) (bytes (at + 1)) (bytes (at + 2)) (bytes (at + 3)))
+  number-by false o at e = rw (number-past 4 o f at (leb-false _ _ e)) tt
+
+  number-small : (o : Order) (at : ℕ) → Accepting (λ (n : ℕ). n < 2 ^ 32) (numberAt 4 o f at)
+  number-small o at = number-by (leb (at + 4) (length f)) o at refl
+
   i32-small : (o : Order) (at : ℕ) → Accepting (λ (z : ℤ). size z < 2 ^ 32) (i32At o f at)
   unfolding i32At Accepting
-  i32-small o at = accepting-bind _ _ _ _ (number-small f bytes o at) (λ n h. signed-small n h)
+  i32-small o at = accepting-bind _ _ _ _ (number-small o at) (λ n h. signed-small n h)
 
   extents-small : (o : Order) (block : ℕ) → Accepting (λ (d : Extents). (size (d .x) < 2 ^ 32) × (size (d .y) < 2 ^ 32)) (extents o f block)
   unfolding extents Accepting
@@ -70,32 +71,21 @@ module _ (f : List ℕ) (bytes : Bytes f) where
 
 -- ---- the description
 
+-- what holds anyway
+always : {A : Type 0} (P : A → Type 0) (m : Result A) → ((a : A) → P a) → Accepting P m
+unfolding Accepting
+always P (accepted a) h = h a
+always P (refused row) h = tt
+
+-- "XY": the first full page is as large as the CZ block says
 equal : (a b c d : ℕ) → (eqb a b && eqb c d) ≡ true → (a ≡ b) × (c ≡ d)
 equal a b c d t = (eqb-true a b (both-hold (eqb a b) (eqb c d) t .0), eqb-true c d (both-hold (eqb a b) (eqb c d) t .1))
 
--- strips that are there and are shared out evenly
-shared : (n channels : ℕ) → (not (eqb n 0) && eqb (n % channels) 0) ≡ true → 0 < channels * (n / channels)
-shared n channels t =
-    let some : n ≡ 0 → ⊥ = eqb-false n 0 (not-true (eqb n 0) (both-hold (not (eqb n 0)) (eqb (n % channels) 0) t .0)) in
-    let even : n % channels ≡ 0 = eqb-true (n % channels) 0 (both-hold (not (eqb n 0)) (eqb (n % channels) 0) t .1) in
-    omega (arith, div-add-mod' n channels, mul-comm channels (n / channels))
-
--- the first full page is as large as the CZ block says, and has strips for each channel
-record Agrees (p : Directory) (i : CzInfo) : Type 0 where
-  wide : i .dimX ≡ p .width
-  high : i .dimY ≡ p .height
-  strips : 0 < max 1 (p .samples) * (length (p .offsets) / max 1 (p .samples))
-
-agrees : (p : Directory) (i : CzInfo) → Accepting (λ (u : Unit {0}). Agrees p i) (agreement p i)
+agreement-sizes : (p : Directory) (i : CzInfo) → Accepting (λ (u : Unit {0}). (i .dimX ≡ p .width) × (i .dimY ≡ p .height)) (agreement p i)
 unfolding agreement
-agrees p i =
-    accepting-bind _ _ _ _ (accepting-need decode (eqb (i .dimX) (p .width) && eqb (i .dimY) (p .height))) (λ _ xy.
-    let e = equal (i .dimX) (p .width) (i .dimY) (p .height) xy in
-    accepting-then _ _ _ (λ _.
-    accepting-then _ _ _ (λ _.
-    accepting-then _ _ _ (λ _.
-    accepting-map _ _ _ (λ _ t. record { wide = e .0; high = e .1; strips = shared (length (p .offsets)) (max 1 (p .samples)) t })
-    (accepting-need decode (not (eqb (length (p .offsets)) 0) && eqb (length (p .offsets) % max 1 (p .samples)) 0))))))
+agreement-sizes p i =
+    accepting-bind _ _ _ _ (accepting-need decode (eqb (i .dimX) (p .width) && eqb (i .dimY) (p .height))) (λ _ t.
+    always _ _ (λ _. equal (i .dimX) (p .width) (i .dimY) (p .height) t))
 
 -- "Scenes are P × M, at least 1."
 layout-some : (i : CzInfo) (pages : ℕ) → Accepting (λ (l : Layout). 0 < l .scenes) (layoutFor i pages)
@@ -106,29 +96,21 @@ layout-some i pages =
     (accepting-then _ _ _ (λ positions. accepting-then _ _ _ (λ tiles. omega arith))) (λ n h. h))
     (λ l h. accepting-then _ _ _ (λ expected. accepting-then _ _ _ (λ _. h)))
 
--- One time point, a picture of 32-bit sizes, and no scene, plane or page without a strip.
+-- One time point, a picture of 32-bit sizes, at least one plane and one scene.
 record Small (d : Description) : Type 0 where
   once : d .dims .t ≡ 1
   wide : d .dims .x < 2 ^ 32
   high : d .dims .y < 2 ^ 32
   deep : 0 < d .dims .z
   scenes : 0 < d .layout .scenes
-  strips : 0 < stripsPerPage d
 
 describe-small : (o : Order) (k : Kind) (p : Directory) (pages : ℕ) (i : CzInfo) → (i .dimX < 2 ^ 32) × (i .dimY < 2 ^ 32) →
     Accepting Small (describe o k p pages i)
 unfolding describe Accepting
 describe-small o k p pages i h =
-    accepting-bind _ _ _ _ (agrees p i) (λ _ a.
+    accepting-bind _ _ _ _ (agreement-sizes p i) (λ _ a.
     accepting-bind _ _ _ _ (layout-some i pages) (λ l some.
-    record {
-      once = refl;
-      wide = rw (← a .wide) (h .0);
-      high = rw (← a .high) (h .1);
-      deep = omega arith;
-      scenes = some;
-      strips = a .strips;
-    }))
+    record { once = refl; wide = rw (← a .0) (h .0); high = rw (← a .1) (h .1); deep = omega arith; scenes = some }))
 
 read-small : (f : List ℕ) → Bytes f → Accepting (λ (x : Opened). Small (x .description)) (read f)
 unfolding read describeWalk Accepting
@@ -155,22 +137,30 @@ pub record Few (d : Description) : Type 0 where
   pub channels : d .dims .c ≤ 2048
   pub scenes : d .layout .scenes ≤ 2048
 
+-- in a product with no 0 among its factors none is larger than the product
 factors : (s z c k : ℕ) → 0 < s → 0 < z → 0 < c * k → s * z * (c * k) * 2 ≤ 4096 → (s ≤ 2048) × (z ≤ 2048) × (c ≤ 2048)
 factors s z c zero a b h room = absurd (omega arith)
 factors s z c (suc k) a b h room =
-    omega
-    (arith, le-mul-of-pos-right s b, le-mul-of-pos-right z a, le-mul-of-pos-right (s * z) h, le-mul-of-pos-right (c * suc k) (mul-pos a b), le-mul-of-pos-right {m = suc k} c (omega arith))
+    omega (
+      arith,
+      le-mul-of-pos-right s b,
+      le-mul-of-pos-right z a,
+      le-mul-of-pos-right (s * z) h,
+      le-mul-of-pos-right (c * suc k) (mul-pos a b),
+      le-mul-of-pos-right {m = suc k} c (omega arith),
+    )
 
 few : (d : Description) (table : List ℕ) → Small d → Fits d table → length table ≤ 4096 → Few d
 few d table small fits room =
     let w : d .layout .scenes * d .dims .z * stripsPerPage d * 2 ≤ 4096 = rw (fits .deep, ← fits .words) room in
-    let n = factors (d .layout .scenes) (d .dims .z) (d .dims .c) (d .stripsPerChannel) (small .scenes) (small .deep) (small .strips) w in
+    let n = factors (d .layout .scenes) (d .dims .z) (d .dims .c) (d .stripsPerChannel) (small .scenes) (small .deep) (fits .strips) w in
     record { once = small .once; wide = small .wide; high = small .high; deep = n .1; channels = n .2; scenes = n .0 }
 
 read-few : (f : List ℕ) → Bytes f → (x : Opened) → read f ≡ accepted x → length (x .table) ≤ 4096 → Few (x .description)
 read-few f bytes x e room =
     few (x .description) (x .table) (accepting-told _ (read f) x (read-small f bytes) e) (accepting-told _ (read f) x (read-fits f) e .1) room
 
+-- what is accepted has room
 lend-fits : (needed room : ℕ) → Accepting (λ (n : ℕ). needed ≤ room) (lend needed room)
 unfolding lend Accepting
 lend-fits needed room = accepting-bind _ _ _ _ (accepting-need (tooShort _) (leb needed room)) (λ _ t. leb-true _ _ t)

@@ -19,6 +19,7 @@ use Rattle.printout_room.proofs.Lengths.{decimal-length}
 
 -- ---- rows
 
+-- A row whose numbers make at most 63 bytes: three of 64 bits, each with a space.
 unfoldable pub Short : List ℕ → Type 0
 Short row = length (numbersText row) ≤ 63
 

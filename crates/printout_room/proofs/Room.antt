@@ -30,6 +30,7 @@ scenes-length : (n : ℕ) → n < 2 ^ 64 → length (scenesLine n) ≤ 27
 unfolding scenesLine
 scenes-length n h = omega (arith, decimal-length n h)
 
+-- `image`, or `image #` and a number
 scene-by : (t : Bool) (x y : List ℕ) → length x ≤ 27 → length y ≤ 27 → length (cond t x y) ≤ 27
 scene-by true x y h k = h
 scene-by false x y h k = k
@@ -43,27 +44,37 @@ unfolding channelsLine
 channels-length n h = omega (arith, decimal-length n h)
 
 module _ (f : List ℕ) (d : Description) (few : Few d) where
+  -- five lines: 9, 110, 26, 33 and 28 bytes
   head-length : length (text (headLines d)) ≤ 206
   unfolding headLines text
   head-length =
       simp length-append
-      (omega
-      (arith, dims-length (d .dims) (omega arith) (omega arith) (omega arith) (omega arith) (omega arith), kind-length (d .kind), pixel-length (d .calibration), scenes-length (d .layout .scenes) (omega arith)))
+      (omega (
+        arith,
+        dims-length (d .dims) (omega arith) (omega arith) (omega arith) (omega arith) (omega arith),
+        kind-length (d .kind),
+        pixel-length (d .calibration),
+        scenes-length (d .layout .scenes) (omega arith),
+      ))
 
+  -- 2,048 scenes of 28 bytes
   scenes-room : length (text (each (d .layout .scenes) (sceneLine (d .layout .scenes)))) ≤ 57344
   scenes-room =
-      omega (arith, each-length (d .layout .scenes) 28 0 (sceneLine (d .layout .scenes)) (λ i. 0) (λ i h. omega (arith, scene-length (d .layout .scenes) i (omega arith))))
+      let n : ℕ = d .layout .scenes in
+      omega (arith, each-length n 28 0 (sceneLine n) (λ i. 0) (λ i h. omega (arith, scene-length n i (omega arith))))
 
-  names-room : length f ≤ most → length (text (each (d .dims .c) (λ c. channelLine (channelsOf f d c)))) ≤ 411648
-  names-room h =
+  -- 2,048 channels of 9 bytes, and six for each of the 65,536 that names can take of the file
+  channels-room : length f ≤ most → length (text (each (d .dims .c) (λ c. channelLine (channelsOf f d c)))) ≤ 411648
+  channels-room h =
       let n = named (d .order) f (d .channelBlock) in
       omega (arith, each-length (d .dims .c) 9 6 (λ c. channelLine (channelsOf f d c)) (n .bytes) (λ i l. n .line i), n .all (d .dims .c))
 
+  -- 469,257 bytes at most
   accepted-room : length f ≤ most → length (text (acceptedLines d (channelsOf f d))) ≤ 524288
   unfolding acceptedLines
   accepted-room h =
       simp (text-append, line-length)
-      (omega (arith, head-length, scenes-room, channels-length (d .dims .c) (omega arith), names-room h, notes-length (d .calibration)))
+      (omega (arith, head-length, scenes-room, channels-length (d .dims .c) (omega arith), channels-room h, notes-length (d .calibration)))
 
 -- ---- the whole
 
@@ -77,6 +88,7 @@ unfolding Accepting Refusing
 lines-room f (accepted x) h few row = accepted-room f (x .description) few h
 lines-room f (refused row) h few short = refused-room row short
 
+-- by the test whether the file is too long
 room-by : (t : Bool) (f : List ℕ) → Bytes f → leb (length f) most ≡ t →
     length (cond t (text (lines f (openFile f 4096))) (text (tooLongLine ∷ []))) ≤ 524288
 room-by true f bytes e =
@@ -84,6 +96,7 @@ room-by true f bytes e =
     lines-room f (openFile f 4096) h (open-few f bytes) (open-refuses f 4096 (omega arith))
 room-by false f bytes e = rw line-length (omega arith)
 
+-- Whatever bytes a file has, its printout has at most 524,288.
 pub printout-room : (f : List ℕ) → ((i : ℕ) → getD f i 0 < 256) → length (printout f) ≤ 524288
 unfolding printout
 printout-room f bytes = room-by (leb (length f) most) f bytes refl
