@@ -4,8 +4,8 @@ use native.Mathlib.Omega.{arith}
 use mathlib.Core.Path.{_≡_, refl, ap, _∙_}
 use mathlib.Core.List.{List, [], _∷_, _++_}
 use borrow.Author.Tests.{le-leb, lt-leb}
-use lib.ListN.{length, getD, drop, length-append, length-drop}
-use lib.Seq.{length-take-le}
+use lib.ListN.{length, getD, take, drop, length-append, length-drop}
+use lib.Seq.{length-take-le, take-take, take-append-seam}
 use Rattle.lsm_format.specs.Answer.{Result, accepted, refused}
 use Rattle.lsm_format.specs.Open.{Opened, openFile}
 use Rattle.lsm_format.specs.Printout.{text, lines, most, tooLongLine, printout}
@@ -33,13 +33,14 @@ printout-told f {s} h e =
 pub record Whole (t after : List ℕ) (r : ℕ) : Type 0 where
   pub count : r ≡ length t
   pub inside : r ≤ length after
+  pub text : take r after ≡ t
 
 listed-whole : (t before : List ℕ) {after : List ℕ} {r : ℕ} → length t ≤ length before → Listed t before after r → Whole t after r
 listed-whole t before {after} {r} h x =
     let e : r ≡ length t = rw (le-leb (length t) (length before) h) at (x .reached) in
     let k : length after ≡ length before =
     ap length (x .memory) ∙ length-take-le (length before) (t ++ drop (length t) before) (rw (length-append, length-drop) (omega arith)) in
-    record { count = e; inside = omega arith }
+    record { count = e; inside = omega arith; text = rw (e, x .memory, take-take (length t) (length before) _ h, take-append-seam) }
 
 -- every printout is
 pub printout-whole : (f before : List ℕ) (n : ℕ) {after : List ℕ} {r : ℕ} → ((i : ℕ) → getD f i 0 < 256) → n ≡ length before → 524288 ≤ n

@@ -79,12 +79,19 @@ pub fn list(buf: &[u8], out: &mut [u8]) -> usize
     put_answer(out, 0, buf, answer)
 }
 
+// Writes a file's printout, and nothing else, to standard output.
+fn write_printout(_buf: &[u8], text: &[u8])
+    requires { ⌜ now text ≡ printout (now «_buf») ⌝ }
+{
+    io::write_all(STDOUT_FILENO, text);
+}
+
 // Lists a file and writes its printout to standard output; answers its length. Every printout has room in `out`.
 pub fn print(buf: &[u8]) -> usize
     ensures { λ r. ⌜ r ≡ length (printout (now (buf .entry))) ⌝ }
 {
     let mut out = [0u8; 524288];
     let n = list(buf, &mut out);
-    io::write_all(STDOUT_FILENO, &out[..n]);
+    write_printout(buf, &out[..n]);
     n
 }

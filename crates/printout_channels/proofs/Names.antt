@@ -9,14 +9,15 @@ use native.Mathlib.Omega.{arith}
 use borrow.Author.Tests.{lt-ltb, leb-true}
 use lib.Dec.{leb}
 use lib.IntN.{ℤ, pos, negsuc}
-use lib.ListN.{length, take, drop, length-append, length-take, length-drop}
+use lib.ListN.{length, take, drop}
 use lib.Seq.{take-at}
 use Rattle.lsm_format.specs.Answer.{Result, accepted, refused, bind}
 use Rattle.lsm_format.specs.Numbers.{Order}
 use Rattle.lsm_format.specs.Lent.{filled}
-use Rattle.lsm_format.specs.Utf8.{Piece, sequence, subpart, after, decoded, piece, lossyBy, lossy}
-use Rattle.lsm_format.specs.Channels.{Channel, joined, trimmed, nameBy, name, recordOf, channelBy, pointers, channelIn, textOf, lookup, lookupMemory}
+use Rattle.lsm_format.specs.Utf8.{lossy}
+use Rattle.lsm_format.specs.Channels.{Channel, trimmed, nameBy, name, recordOf, channelBy, pointers, channelIn, textOf, lookup, lookupMemory}
 use Rattle.lsm_format.proofs.Lent.{lend-room, filled-room}
+use Rattle.printout_room.proofs.Texts.{text-length}
 use Rattle.lsm_channel_colors.specs.Code.{Seen, metaOf, answerOf, lengthOf, seen, Looked}
 use Rattle.lsm_channel_colors.specs.declared.ChannelMeta.{ChannelMeta}
 use Rattle.lsm_channel_colors.specs.declared.ChannelAnswer.{ChannelAnswer}
@@ -24,37 +25,7 @@ use Rattle.lsm_channel_colors.specs.declared.ChannelAnswer.the-variants.{Found,
 use Rattle.lsm_format.specs.declared.error.Refusal.{Refusal}
 use Rattle.printout_channels.specs.Channel.{firstOf, channelOf}
 
--- ---- three bytes for each
-
--- a piece and three bytes for each byte after it
-piece-room : (p : Piece) (b : ℕ) (bs : List ℕ) → length (decoded p b bs) + 3 * (length bs - after p) ≤ 3 * length (b ∷ bs)
-piece-room (sequence n) b bs = omega (arith, length-take n bs)
-piece-room (subpart n) b bs = omega arith
-
-lossy-room : (n : ℕ) (bs : List ℕ) → length (lossyBy n bs) ≤ 3 * length bs
-unfolding lossyBy
-lossy-room zero bs = omega arith
-lossy-room (suc n) [] = omega arith
-lossy-room (suc n) (b ∷ bs) =
-    let p = piece b bs in
-    let rest = drop (after p) bs in
-    omega (arith, length-append (decoded p b bs) (lossyBy n rest), lossy-room n rest, length-drop (after p) bs, piece-room p b bs)
-
 -- ---- a name
-
-joined-room : (b : ℕ) (bs : List ℕ) → length (joined b bs) ≤ suc (length bs)
-joined-room zero [] = omega arith
-joined-room zero (c ∷ bs) = omega arith
-joined-room (suc b) bs = omega arith
-
-trimmed-room : (bs : List ℕ) → length (trimmed bs) ≤ length bs
-trimmed-room [] = omega arith
-trimmed-room (b ∷ bs) = omega (arith, joined-room b (trimmed bs), trimmed-room bs)
-
-text-room : (bs : List ℕ) (n : ℕ) → n ≤ 1024 → length (lossy (trimmed (take n bs))) ≤ 3072
-unfolding lossy
-text-room bs n h =
-    omega (arith, lossy-room (length (trimmed (take n bs))) (trimmed (take n bs)), trimmed-room (take n bs), length-take n bs)
 
 -- the name of a record, by whether it is short enough
 abbrev given : Bool → List ℕ → Option (List ℕ)
@@ -65,7 +36,7 @@ record-room f none = omega arith
 record-room f (some r) = go (leb (r .1) 1024) refl
   where
     go : (t : Bool) → leb (r .1) 1024 ≡ t → length (textOf (given t (lossy (trimmed (take (r .1) (drop (r .0) f)))))) ≤ 3072
-    go true e = text-room (drop (r .0) f) (r .1) (leb-true (r .1) 1024 e)
+    go true e = omega (arith, text-length (drop (r .0) f) (r .1), leb-true (r .1) 1024 e)
     go false e = omega arith
 
 name-room : (o : Order) (f : List ℕ) (block : ℕ) (names : ℤ) (channel : ℕ) → length (textOf (name o f block names channel)) ≤ 3072

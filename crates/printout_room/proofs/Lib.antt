@@ -1,4 +1,5 @@
 pub mod Lengths
+pub mod Texts
 pub mod Names
 pub mod Refusals
 pub mod Described

@@ -1,5 +1,4 @@
--- How long the names of a file's channels are: they stand one after another in the file, and a byte becomes at most three. Assumes
--- nothing.
+-- How long the names of a file's channels are, which stand one after another in the file. Assumes nothing.
 use Prim.Native.Nat.{ℕ, zero, suc, _+_, _*_, _-_, _≤_, _<_}
 use native.Mathlib.Omega.{arith}
 use mathlib.Core.Bool.{Bool, true, false}
@@ -8,41 +7,17 @@ use mathlib.Core.Path.{_≡_, refl}
 use mathlib.Core.List.{List, [], _∷_}
 use lib.Dec.{leb}
 use lib.IntN.{ℤ, pos, negsuc}
-use lib.ListN.{length, take, drop, length-append, length-take, length-drop}
+use lib.ListN.{length, take, drop, length-append, length-take}
 use borrow.Author.Tests.{leb-true}
 use Rattle.lsm_format.specs.Answer.{Result, accepted, refused}
 use Rattle.lsm_format.specs.Numbers.{Order, i32At}
-use Rattle.lsm_format.specs.Utf8.{Piece, sequence, subpart, piece, after, decoded, lossyBy, lossy}
-use Rattle.lsm_format.specs.Channels.{Channel, pointers, colorAt, color, recordBy, nameRecord, recordOf, joined, trimmed, nameBy, name, channelBy, channelIn}
+use Rattle.lsm_format.specs.Utf8.{lossy}
+use Rattle.lsm_format.specs.Channels.{Channel, pointers, colorAt, color, recordBy, nameRecord, recordOf, trimmed, nameBy, name, channelBy, channelIn}
 use Rattle.lsm_format.specs.Printout.{hexBytes, colorText, nameText, channelLine}
 use Rattle.printout_room.proofs.Lengths.{bytes-length, sums, sums-front, sums-none}
+use Rattle.printout_room.proofs.Texts.{text-length}
 
--- ---- a name's text
-
--- a piece gives at most three bytes for each that it takes
-decoded-length : (p : Piece) (b : ℕ) (bs : List ℕ) → length (decoded p b bs) + 3 * length (drop (after p) bs) ≤ 3 * suc (length bs)
-decoded-length (sequence n) b bs = omega (arith, length-take n bs, length-drop n bs)
-decoded-length (subpart n) b bs = omega (arith, length-drop n bs)
-
-lossy-by : (n : ℕ) (bs : List ℕ) → length (lossyBy n bs) ≤ 3 * length bs
-unfolding lossyBy
-lossy-by zero bs = omega arith
-lossy-by (suc n) [] = omega arith
-lossy-by (suc n) (b ∷ bs) =
-    rw length-append (omega (arith, decoded-length (piece b bs) b bs, lossy-by n (drop (after (piece b bs)) bs)))
-
-lossy-length : (bs : List ℕ) → length (lossy bs) ≤ 3 * length bs
-unfolding lossy
-lossy-length bs = lossy-by (length bs) bs
-
-joined-length : (b : ℕ) (bs : List ℕ) → length (joined b bs) ≤ suc (length bs)
-joined-length zero [] = omega arith
-joined-length zero (c ∷ bs) = omega arith
-joined-length (suc b) bs = omega arith
-
-trimmed-length : (bs : List ℕ) → length (trimmed bs) ≤ length bs
-trimmed-length [] = omega arith
-trimmed-length (b ∷ bs) = omega (arith, joined-length b (trimmed bs), trimmed-length bs)
+-- ---- a name
 
 -- the bytes of a record in the file
 abbrev raw : Option (ℕ × ℕ) → ℕ
@@ -50,9 +25,7 @@ raw none = 0
 raw (some r) = r .1
 
 given-length : (f : List ℕ) (s n : ℕ) → length (hexBytes (lossy (trimmed (take n (drop s f))))) ≤ 6 * n
-given-length f s n =
-    rw bytes-length
-    (omega (arith, lossy-length (trimmed (take n (drop s f))), trimmed-length (take n (drop s f)), length-take n (drop s f)))
+given-length f s n = rw bytes-length (omega (arith, text-length (drop s f) n))
 
 by-test : (t : Bool) (x : List ℕ) (n : ℕ) → length (hexBytes x) ≤ 6 * n → length (nameText (elim t [ true ↦ some x | false ↦ none ])) ≤ 1 + 6 * n
 by-test true x n h = omega arith

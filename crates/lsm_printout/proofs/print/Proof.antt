@@ -1,4 +1,5 @@
--- `lsm_printout::print` meets its contract: every printout of bytes has room in `out`, so that what is written is all of it. Assumes nothing.
+-- `lsm_printout::print` meets its contract: every printout of bytes has room in `out`, so that what is written is the whole of it. Assumes
+-- nothing.
 use native.Mathlib.Omega.{arith}
 use mathlib.Core.Path.{sym}
 use lib.Seq.{length-take-le}
@@ -23,11 +24,11 @@ list-requires c κs = search needs
 array-share-prefix-out : tie.Need-array-share-prefix-out
 array-share-prefix-out c = known (c .before) .inside
 
-slice-aggregate-write-all : tie.Need-slice-aggregate-write-all
-slice-aggregate-write-all c = sym (length-take-le _ _ (known (c .before .before) .inside))
+slice-aggregate-write-printout : tie.Need-slice-aggregate-write-printout
+slice-aggregate-write-printout c = sym (length-take-le _ _ (known (c .before .before) .inside))
 
-write-all-requires : tie.Need-write-all-requires
-write-all-requires c κs = search needs
+write-printout-requires : tie.Need-write-printout-requires
+write-printout-requires c κs = known (c .before .before) .text
 
 returns : tie.Need-returns
 returns c = known (c .before .before .before) .count
@@ -35,4 +36,4 @@ returns c = known (c .before .before .before) .count
 pub print-spec : {M : Type 1} → statement M
 print-spec =
     tie.close
-    (tie.spec slice-aggregate-list list-requires array-share-prefix-out slice-aggregate-write-all write-all-requires returns)
+    (tie.spec slice-aggregate-list list-requires array-share-prefix-out slice-aggregate-write-printout write-printout-requires returns)
