@@ -4,10 +4,12 @@ ghost use mathlib.Core.Bool.{true};
 ghost use Prim.Native.Nat.{_<_, _≤_};
 ghost use lib.ListN.{length};
 ghost use Rattle.io.specs.Counts.{Counts};
+ghost use Rattle.vector_numbers.specs.Numbers.{digitOf, holdsAt, numberAt, numbersAt, Reads};
 
 // The value of a hexadecimal digit; 16 for another byte.
 pub fn digit(b: u8) -> u8
-    ensures { λ r. ⌜ r ≤ 16 ⌝ }
+    ensures { λ r. ⌜ r ≡ digitOf b ⌝ }
+    ensures small { λ r. ⌜ r ≤ 16 ⌝ }
 {
     match b {
         b'0'..=b'9' => b - b'0',
@@ -18,7 +20,8 @@ pub fn digit(b: u8) -> u8
 
 // Whether a byte stands at a place.
 pub fn holds(text: &[u8], at: usize, b: u8) -> bool
-    ensures { λ r. ⌜ (r ≡ true → at < length (now (text .entry))) ⌝ }
+    ensures { λ r. ⌜ r ≡ holdsAt (now (text .entry)) at b ⌝ }
+    ensures inside { λ r. ⌜ (r ≡ true → at < length (now (text .entry))) ⌝ }
 {
     if at < text.len() {
         text[at] == b
@@ -35,8 +38,9 @@ pub struct Number {
 // The number at a place, and where it ends: at the place itself where there is none, and at the text's end where the place is
 // past it. A digit that would pass 64 bits ends it.
 pub fn number_at(text: &[u8], from: usize) -> Number
-    ensures { λ r. ⌜ r .next ≤ length (now (text .entry)) ⌝ }
-    ensures { λ r. ⌜ (from ≤ length (now (text .entry)) → from ≤ r .next) ⌝ }
+    ensures { λ r. ⌜ (r .value ≡ numberAt (now (text .entry)) from .0) × (r .next ≡ numberAt (now (text .entry)) from .1) ⌝ }
+    ensures inside { λ r. ⌜ r .next ≤ length (now (text .entry)) ⌝ }
+    ensures onward { λ r. ⌜ (from ≤ length (now (text .entry)) → from ≤ r .next) ⌝ }
 {
     if text.len() < from {
         return Number {
@@ -69,9 +73,10 @@ pub struct Field {
 // Reads numbers with a space before each: how many there were, and where they end. None, and the text's end, where the place is
 // past it.
 pub fn numbers_at(text: &[u8], from: usize, numbers: &mut [usize]) -> Field
-    ensures { λ r. ⌜ Counts (r .count) (now (numbers .exit)) ⌝ }
-    ensures { λ r. ⌜ r .next ≤ length (now (text .entry)) ⌝ }
-    ensures { λ r. ⌜ (from ≤ length (now (text .entry)) → from ≤ r .next) ⌝ }
+    ensures { λ r. ⌜ Reads (numbersAt (now (text .entry)) from (length (now (numbers .entry)))) (now (numbers .entry)) (now (numbers .exit)) (r .count) (r .next) ⌝ }
+    ensures short { λ r. ⌜ Counts (r .count) (now (numbers .exit)) ⌝ }
+    ensures inside { λ r. ⌜ r .next ≤ length (now (text .entry)) ⌝ }
+    ensures onward { λ r. ⌜ (from ≤ length (now (text .entry)) → from ≤ r .next) ⌝ }
 {
     if text.len() < from {
         return Field {

@@ -1,8 +1,8 @@
 -- `vector_numbers::holds` meets its contract. Assumes nothing.
-use Prim.Native.Nat.{ℕ}
 use native.Mathlib.Omega.{arith}
-use mathlib.Core.Path.{_≡_}
+use mathlib.Core.Bool.{false≢true}
 use borrow.Author.Needs.{needs}
+use Rattle.vector_numbers.proofs.Laws.{there, outside}
 use Rattle.vector_numbers.proofs.holds.Statement.{statement}
 use Rattle.vector_numbers.proofs.holds.Tie as tie
 
@@ -10,10 +10,10 @@ shared-slice-read-result : tie.Need-shared-slice-read-result
 shared-slice-read-result c = search needs
 
 returns : tie.Need-returns
-returns c = search needs
+returns c = (there _ _ _ (omega arith), search needs)
 
 returns-2 : tie.Need-returns-2
-returns-2 c e = let z : _≡_ {A = ℕ} 0 1 = cc in absurd (omega arith)
+returns-2 c = (outside _ _ _ (omega arith), λ e. absurd (false≢true e))
 
 pub holds-spec : {M : Type 1} → statement M
 holds-spec = tie.close (tie.spec shared-slice-read-result returns returns-2)

@@ -1,22 +1,25 @@
--- `vector_numbers::number_at` meets its contract. Assumes nothing.
+-- `vector_numbers::number_at` meets its contract: the value and the place so far come to the number. Assumes nothing.
 use Prim.Native.Nat.{_-_, _≤_}
 use native.Mathlib.Omega.{arith}
+use mathlib.Core.Path.{_≡_, _∙_}
 use borrow.Author.Needs.{needs}
-use lib.ListN.{length}
+use lib.ListN.{length, drop}
+use Rattle.vector_numbers.specs.Numbers.{number, numberAt}
+use Rattle.vector_numbers.proofs.Laws.{number-more, number-stops, number-full, number-ends, number-from, number-past, parts}
 use Rattle.vector_numbers.proofs.number_at.Statement.{statement}
 use Rattle.vector_numbers.proofs.number_at.Tie as tie
 
 abbrev Inv-loop : tie.InvT-loop
-Inv-loop text from value₀ at₀ value at = (from ≤ at) × (at ≤ length text)
+Inv-loop text from value₀ at₀ value at = (from ≤ at) × (at ≤ length text) × (numberAt text from ≡ number value at (drop at text))
 
 abbrev μ-loop : tie.MeasureT-loop
 μ-loop text from value₀ at₀ value at = length text - at
 
 returns : tie.Need-returns Inv-loop μ-loop
-returns c = (omega arith, λ h. absurd (omega arith))
+returns c = (parts (number-past _ _ (omega arith)), (omega arith, λ h. absurd (omega arith)))
 
 loop-holds : tie.Need-loop-holds Inv-loop μ-loop
-loop-holds c = search needs
+loop-holds c = (omega arith, omega arith, number-from _ _ (omega arith))
 
 shared-slice-read-digit : tie.Need-shared-slice-read-digit Inv-loop μ-loop
 shared-slice-read-digit c = search needs
@@ -25,10 +28,14 @@ digit-requires : tie.Need-digit-requires Inv-loop μ-loop
 digit-requires c κs = search needs
 
 returns-2 : tie.Need-returns-2 Inv-loop μ-loop
-returns-2 c = search needs
+returns-2 c =
+    let d = c .before .digit .ensures .0 in
+    (parts (c .before .before .before .before .loop .inv .2 ∙ number-stops _ _ _ _ d (omega arith) (omega arith)), (omega arith, λ h. omega arith))
 
 returns-3 : tie.Need-returns-3 Inv-loop μ-loop
-returns-3 c = search needs
+returns-3 c =
+    let d = c .before .before .digit .ensures .0 in
+    (parts (c .before .before .before .before .before .loop .inv .2 ∙ number-full _ _ _ _ d (omega arith) (omega arith)), (omega arith, λ h. omega arith))
 
 mul-value : tie.Need-mul-value Inv-loop μ-loop
 mul-value c = search needs
@@ -46,10 +53,12 @@ loop-less : tie.Need-loop-less Inv-loop μ-loop
 loop-less c = search needs
 
 loop-again : tie.Need-loop-again Inv-loop μ-loop
-loop-again c = search needs
+loop-again c =
+    let d = c .before .before .digit .ensures .0 in
+    (omega arith, omega arith, c .before .before .before .before .before .loop .inv .2 ∙ number-more _ _ _ _ d (omega arith) (omega arith) (omega arith))
 
 returns-4 : tie.Need-returns-4 Inv-loop μ-loop
-returns-4 c = search needs
+returns-4 c = (parts (c .before .loop .inv .2 ∙ number-ends _ _ _ (omega arith)), (omega arith, λ h. omega arith))
 
 pub number-at-spec : {M : Type 1} → statement M
 number-at-spec =

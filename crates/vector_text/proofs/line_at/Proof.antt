@@ -43,8 +43,8 @@ same-length-4 c = search needs
 
 returns-3 : tie.Need-returns-3
 returns-3 c =
-    let h = c .before .before .holds .ensures (not-false _ (c .before .if2 .left)) in
-    let n = c .before .before .before .before .before .before .before .before .before .numbers-at .ensures .1 .1 (omega arith) in
+    let h = c .before .before .holds .ensures .1 (not-false _ (c .before .if2 .left)) in
+    let n = c .before .before .before .before .before .before .before .before .before .numbers-at .ensures .1 .1 .1 (omega arith) in
     (search needs, (search needs, (omega (arith, h), (λ k. omega (arith, h, n), λ k. absurd (omega arith)))))
 
 pub line-at-spec : {M : Type 1} → statement M

@@ -18,7 +18,7 @@ same-length c = search needs
 
 returns : tie.Need-returns
 returns c =
-    let h = c .before .before .before .before .before .holds .ensures (c .before .before .before .before .if1 .taken) in
+    let h = c .before .before .before .before .before .holds .ensures .1 (c .before .before .before .before .if1 .taken) in
     (search needs, (omega (arith, c .before .before .bytes-at .ensures .1 .1 (omega (arith, h))), omega arith))
 
 returns-2 : tie.Need-returns-2
