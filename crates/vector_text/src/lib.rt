@@ -1,7 +1,5 @@
 // The lines of a list of recorded answers. A line is a letter, then hexadecimal numbers with a space before each, then a colon and
 // bytes where the case has any. Two digits are a byte, and `*NNBB` is NN bytes BB.
-pub mod same;
-
 use vector_numbers::Field;
 use vector_numbers::digit;
 use vector_numbers::holds;

@@ -14,7 +14,7 @@ same-front-requires : tie.Need-same-front-requires
 same-front-requires c κs = search needs
 
 returns : tie.Need-returns
-returns c = λ e. omega (arith, c .same-front .ensures .0 e, c .before .before .before .numbers .ensures .count)
+returns c = λ e. omega (arith, c .same-front .ensures .1 e, c .before .before .before .numbers .ensures .count)
 
 pub refused-spec : {M : Type 1} → statement M
 refused-spec =

@@ -2,7 +2,7 @@
 use Prim.Native.Nat.{ℕ}
 use native.Mathlib.Omega.{arith}
 use mathlib.Core.Path.{_≡_}
-use Rattle.vector_text.proofs.Laws.{taken, rested}
+use Rattle.vector_same.proofs.Laws.{taken, rested}
 use borrow.Author.Needs.{needs}
 use Rattle.lsm_replay_pictures.proofs.picture.read.Statement.{statement}
 use Rattle.lsm_replay_pictures.proofs.picture.read.Tie as tie
@@ -37,7 +37,7 @@ same-then-kept-requires c κs = search needs
 returns-3 : tie.Need-returns-3
 returns-3 c = λ e.
     let said = c .before .before .before .before .before .before .before .before .before .args .said .now in
-    (omega (arith, rested 4 said (omega arith), c .same-then-kept .ensures .0 e), c .same-then-kept .ensures .0 e .1)
+    (omega (arith, rested 4 said (omega arith), c .same-then-kept .ensures .1 e), c .same-then-kept .ensures .1 e .1)
 
 pub read-spec : {M : Type 1} → statement M
 read-spec =

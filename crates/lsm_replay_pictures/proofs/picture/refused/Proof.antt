@@ -22,7 +22,7 @@ same-front-requires : tie.Need-same-front-requires
 same-front-requires c κs = search needs
 
 returns-2 : tie.Need-returns-2
-returns-2 c = λ e. omega (arith, c .same-front .ensures .0 e, c .before .before .before .before .before .numbers .ensures .count)
+returns-2 c = λ e. omega (arith, c .same-front .ensures .1 e, c .before .before .before .before .before .numbers .ensures .count)
 
 pub refused-spec : {M : Type 1} → statement M
 refused-spec =

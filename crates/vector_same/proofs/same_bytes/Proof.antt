@@ -1,24 +1,24 @@
--- `vector_text::same::same_bytes` meets its contract: all before i is the same. Assumes nothing.
-use Prim.Native.Nat.{ℕ, _-_, _≤_, _<_}
+-- `vector_same::same_bytes` meets its contract: the lists are the same if they are from i on. Assumes nothing.
+use Prim.Native.Nat.{_-_}
 use native.Mathlib.Omega.{arith}
-use mathlib.Core.Path.{_≡_}
+use mathlib.Core.Path.{sym}
 use borrow.Author.Needs.{needs}
-use lib.ListN.{length, getD}
-use borrow.Author.Count.{below-more}
-use Rattle.vector_text.proofs.same.same_bytes.Statement.{statement}
-use Rattle.vector_text.proofs.same.same_bytes.Tie as tie
+use lib.ListN.{length}
+use Rattle.vector_same.proofs.Laws.{same-long, Same, same-first, same-more, same-not, same-all}
+use Rattle.vector_same.proofs.same_bytes.Statement.{statement}
+use Rattle.vector_same.proofs.same_bytes.Tie as tie
 
 abbrev Inv-loop : tie.InvT-loop
-Inv-loop a b i₀ i = (i ≤ length a) × ((k : ℕ) → k < i → getD a k 0 ≡ getD b k 0)
+Inv-loop a b i₀ i = Same a b i
 
 abbrev μ-loop : tie.MeasureT-loop
 μ-loop a b i₀ i = length a - i
 
 returns : tie.Need-returns Inv-loop μ-loop
-returns c = (λ e. let z : _≡_ {A = ℕ} 0 1 = cc in absurd (omega arith), λ e. let z : _≡_ {A = ℕ} 0 1 = cc in absurd (omega arith))
+returns c = sym (same-long _ _ (omega arith))
 
 loop-holds : tie.Need-loop-holds Inv-loop μ-loop
-loop-holds c = search needs
+loop-holds c = same-first _ _
 
 mul-if2 : tie.Need-mul-if2 Inv-loop μ-loop
 mul-if2 c = search needs
@@ -33,7 +33,7 @@ wide-requires : tie.Need-wide-requires Inv-loop μ-loop
 wide-requires c κs = search needs
 
 returns-2 : tie.Need-returns-2 Inv-loop μ-loop
-returns-2 c = (λ e. let z : _≡_ {A = ℕ} 0 1 = cc in absurd (omega arith), λ e. let z : _≡_ {A = ℕ} 0 1 = cc in absurd (omega arith))
+returns-2 c = same-not (c .before .before .before .before .before .loop .inv) (omega arith) (omega arith) (omega arith)
 
 add-i : tie.Need-add-i Inv-loop μ-loop
 add-i c = search needs
@@ -42,10 +42,10 @@ loop-less : tie.Need-loop-less Inv-loop μ-loop
 loop-less c = search needs
 
 loop-again : tie.Need-loop-again Inv-loop μ-loop
-loop-again c = (search needs, below-more _ _ (c .before .before .before .before .before .loop .inv .1) (omega arith))
+loop-again c = same-more (c .before .before .before .before .before .loop .inv) (omega arith) (omega arith) (omega arith)
 
 returns-3 : tie.Need-returns-3 Inv-loop μ-loop
-returns-3 c = (λ e. omega arith, λ e k h. c .before .loop .inv .1 k (omega arith))
+returns-3 c = same-all (c .before .loop .inv) (omega arith) (omega arith)
 
 pub same-bytes-spec : {M : Type 1} → statement M
 same-bytes-spec =
