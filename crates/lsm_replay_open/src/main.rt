@@ -10,7 +10,6 @@ ghost use Prim.Native.Nat.{_+_, _<_, _≤_};
 ghost use lib.Dec.{eqb};
 ghost use lib.ListN.{length};
 
-mod description;
 mod lookup;
 mod opening;
 

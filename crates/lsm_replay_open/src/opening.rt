@@ -1,5 +1,5 @@
 // A line `o`: the table's room in words, and the answer that opening the line's file gives.
-use crate::description::words;
+use description_words::description_words;
 use lsm_format::error::Refusal;
 use lsm_reader::open::OpenAnswer;
 use lsm_reader::open::Opened;
@@ -43,7 +43,7 @@ fn opened(said: &[usize], o: Opened, table: &[usize]) -> bool
         return false;
     }
     let d = o.description;
-    if !same_words(&said[3..20], &words(d)) {
+    if !same_words(&said[3..20], &description_words(d)) {
         return false;
     }
     if !same_words(&said[20..], &table[..count]) {

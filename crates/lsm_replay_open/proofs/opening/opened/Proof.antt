@@ -34,8 +34,8 @@ part-same-words-start c = search needs
 part-same-words-end : tie.Need-part-same-words-end
 part-same-words-end c = search needs
 
-words-requires : tie.Need-words-requires
-words-requires c κs = search needs
+description-words-requires : tie.Need-description-words-requires
+description-words-requires c κs = search needs
 
 slice-aggregate-same-words-3 : tie.Need-slice-aggregate-same-words-3
 slice-aggregate-same-words-3 c = search needs
@@ -95,7 +95,7 @@ opened-spec =
     sub-same-words
     part-same-words-start
     part-same-words-end
-    words-requires
+    description-words-requires
     slice-aggregate-same-words-3
     same-words-requires-2
     returns-4
