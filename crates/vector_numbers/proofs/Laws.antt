@@ -9,7 +9,7 @@ use borrow.Author.Tests.{lt-ltb, le-ltb, le-leb, lt-leb}
 use lib.Dec.{leb, ltb, eqb}
 use lib.ListN.{length, take, drop, getD, set, length-set, drop-of-length-le, take-append-drop}
 use lib.Seq.{drop-cons, drop-drop, length-take-le, take-suc-set, drop-set-lt}
-use Rattle.vector_numbers.specs.Numbers.{within, digitOf, holdsAt, goesOn, number, numberAt, spaced, numbers, numbersAt, over, Reads}
+use Rattle.vector_numbers.specs.Numbers.{within, digitOf, holdsAt, goesOn, number, numberAt, spaced, then, numbers, numbersAt, over, Reads}
 
 -- ---- a digit
 
@@ -91,7 +91,7 @@ parts e = (sym (ap (λ (p : ℕ × ℕ). p .0) e), sym (ap (λ (p : ℕ × ℕ).
 -- one number more
 pub numbers-more : (room k : ℕ) (text : List ℕ) (at value next : ℕ) → room ≡ suc k → holdsAt text at 32 ≡ true
     → (value ≡ numberAt text (at + 1) .0) × (next ≡ numberAt text (at + 1) .1) → at + 1 < next
-    → numbers room text at ≡ (value ∷ numbers k text next .0, numbers k text next .1)
+    → numbers room text at ≡ then (value ∷ []) (numbers k text next)
 unfolding numbers spaced
 numbers-more room k text at value next r e (v, n) h = rw (r, v, n, e, lt-ltb (at + 1) (numberAt text (at + 1) .1) (rw n at h))
 
@@ -141,7 +141,7 @@ nothing-yet read rest memory e =
 
 -- a part more
 pub part-more : {read rest rest′ : List ℕ × ℕ} {before after after′ : List ℕ} {n m : ℕ} (part : List ℕ) → Sofar read rest before after n
-    → rest ≡ (part ++ rest′ .0, rest′ .1) → n ≤ m → m ≤ length after → length after′ ≡ length after
+    → rest ≡ then part rest′ → n ≤ m → m ≤ length after → length after′ ≡ length after
     → take m after′ ≡ take n after ++ part → drop m after′ ≡ drop m after → Sofar read rest′ before after′ m
 part-more {read} {rest} {rest′} {before} {after} {after′} {n} {m} part s e h f l front back =
     let j : m ≡ n + (m - n) = omega arith in
@@ -155,7 +155,7 @@ part-more {read} {rest} {rest′} {before} {after} {after′} {n} {m} part s e h
 
 -- one number more
 pub one-more : {read rest rest′ : List ℕ × ℕ} {before after : List ℕ} {n : ℕ} (v : ℕ) → Sofar read rest before after n
-    → rest ≡ (v ∷ rest′ .0, rest′ .1) → n < length after → Sofar read rest′ before (set after n v) (n + 1)
+    → rest ≡ then (v ∷ []) rest′ → n < length after → Sofar read rest′ before (set after n v) (n + 1)
 one-more {rest′ = rest′} {after = after} {n = n} v s e h =
     part-more (v ∷ []) s e (omega arith) (omega arith) (length-set after n v)
     (rw (add-one n) (take-suc-set after n v h)) (drop-set-lt (n + 1) after n v (omega arith))
@@ -171,3 +171,7 @@ read-all {read} {rest} {before} {after} {n} at s e =
       ends = sym (s .place ∙ ap (λ (r : List ℕ × ℕ). r .1) e);
       memory = sym (take-append-drop n after) ∙ ap (λ (x : List ℕ). x ++ drop n after) (sym list) ∙ ap (λ (x : List ℕ). read .0 ++ x) (s .past) ∙ ap (λ (k : ℕ). read .0 ++ drop k before) many;
     }
+
+-- nothing to read
+pub read-none : {read : List ℕ × ℕ} {at : ℕ} (memory : List ℕ) → read ≡ ([], at) → Reads read memory memory 0 at
+read-none {read} {at} memory e = read-all at (nothing-yet read ([], at) memory e) refl

@@ -34,13 +34,15 @@ numberAt text from = number 0 (min from (length text)) (drop from text)
 unfoldable pub spaced : List ℕ → ℕ → Bool
 spaced text at = holdsAt text at 32 && ltb (at + 1) (numberAt text (at + 1) .1)
 
+-- A part that was read, and what was read after it.
+abbrev pub then : List ℕ → List ℕ × ℕ → List ℕ × ℕ
+then part rest = (part ++ rest .0, rest .1)
+
 -- Numbers with a space before each, as many as there is room for, and where they end.
 unfoldable pub numbers : ℕ → List ℕ → ℕ → List ℕ × ℕ
 numbers zero text at = ([], at)
 numbers (suc room) text at =
-    cond (spaced text at)
-    (numberAt text (at + 1) .0 ∷ numbers room text (numberAt text (at + 1) .1) .0, numbers room text (numberAt text (at + 1) .1) .1)
-    ([], at)
+    cond (spaced text at) (then (numberAt text (at + 1) .0 ∷ []) (numbers room text (numberAt text (at + 1) .1))) ([], at)
 
 -- The numbers from a place on; past the text there are none, and they end where the text does.
 unfoldable pub numbersAt : List ℕ → ℕ → ℕ → List ℕ × ℕ

@@ -5,13 +5,17 @@ use vector_numbers::digit;
 use vector_numbers::holds;
 use vector_numbers::numbers_at;
 ghost use mathlib.Core.Path.{_≡_};
-ghost use Prim.Native.Nat.{ℕ, _+_, _<_, _≤_};
-ghost use lib.ListN.{length, getD};
+ghost use mathlib.Core.List.{_++_};
+ghost use Prim.Native.Nat.{_+_, _-_, _<_, _≤_};
+ghost use lib.ListN.{length, take, drop, replicate};
 ghost use Rattle.io.specs.Counts.{Counts};
+ghost use Rattle.vector_numbers.specs.Numbers.{over, Reads};
+ghost use Rattle.vector_text.specs.Lines.{pairAt, runAt, bytesAt, tailAt, numbersOf, bytesOf, lineAt, rowAt};
 
 // The byte that two digits at a place are; 256 where they are not there.
 fn pair(text: &[u8], at: usize) -> usize
-    ensures { λ r. ⌜ (r ≤ 256) × (r < 256 → at + 2 ≤ length (now (text .entry))) ⌝ }
+    ensures { λ r. ⌜ r ≡ pairAt (now (text .entry)) at ⌝ }
+    ensures inside { λ r. ⌜ (r ≤ 256) × (r < 256 → at + 2 ≤ length (now (text .entry))) ⌝ }
 {
     if text.len() < 2 {
         return 256;
@@ -39,7 +43,8 @@ struct Run {
 
 fn run_at(text: &[u8], at: usize) -> Run
     requires { ⌜ at ≤ length (now text) ⌝ }
-    ensures { λ r. ⌜ (at ≤ r .next) × (r .next ≤ length (now (text .entry))) ⌝ }
+    ensures { λ r. ⌜ runAt (now (text .entry)) at ≡ (replicate (r .times) (r .byte), r .next) ⌝ }
+    ensures inside { λ r. ⌜ (at ≤ r .next) × (r .next ≤ length (now (text .entry))) ⌝ }
 {
     let none = Run {
         times: 0,
@@ -74,8 +79,9 @@ fn run_at(text: &[u8], at: usize) -> Run
 
 // Writes a byte over a part.
 fn fill(bytes: &mut [u8], from: usize, end: usize, b: u8)
-    requires { ⌜ end ≤ length (now bytes) ⌝ }
-    ensures { λ _. ⌜ ((k : ℕ) → from ≤ k → k < end → getD (now (bytes .exit)) k 0 ≡ b) ⌝ }
+    requires { ⌜ (from ≤ end) × (end ≤ length (now bytes)) ⌝ }
+    ensures { λ _. ⌜ take end (now (bytes .exit)) ≡ take from (now (bytes .entry)) ++ replicate (end - from) b ⌝ }
+    ensures { λ _. ⌜ drop end (now (bytes .exit)) ≡ drop end (now (bytes .entry)) ⌝ }
 {
     let mut i = from;
     while i < end {
@@ -86,9 +92,10 @@ fn fill(bytes: &mut [u8], from: usize, end: usize, b: u8)
 
 // Reads bytes from a place on: how many there were, and where they end. None, and the text's end, where the place is past it.
 pub fn bytes_at(text: &[u8], from: usize, bytes: &mut [u8]) -> Field
-    ensures { λ r. ⌜ Counts (r .count) (now (bytes .exit)) ⌝ }
-    ensures { λ r. ⌜ r .next ≤ length (now (text .entry)) ⌝ }
-    ensures { λ r. ⌜ (from ≤ length (now (text .entry)) → from ≤ r .next) ⌝ }
+    ensures { λ r. ⌜ Reads (bytesAt (now (text .entry)) from (length (now (bytes .entry)))) (now (bytes .entry)) (now (bytes .exit)) (r .count) (r .next) ⌝ }
+    ensures short { λ r. ⌜ Counts (r .count) (now (bytes .exit)) ⌝ }
+    ensures inside { λ r. ⌜ r .next ≤ length (now (text .entry)) ⌝ }
+    ensures onward { λ r. ⌜ (from ≤ length (now (text .entry)) → from ≤ r .next) ⌝ }
 {
     if text.len() < from {
         return Field {
@@ -116,8 +123,9 @@ pub fn bytes_at(text: &[u8], from: usize, bytes: &mut [u8]) -> Field
 // The bytes after a colon; none where there is no colon.
 fn tail_at(text: &[u8], at: usize, bytes: &mut [u8]) -> Field
     requires { ⌜ at ≤ length (now text) ⌝ }
-    ensures { λ r. ⌜ Counts (r .count) (now (bytes .exit)) ⌝ }
-    ensures { λ r. ⌜ (at ≤ r .next) × (r .next ≤ length (now (text .entry))) ⌝ }
+    ensures { λ r. ⌜ Reads (tailAt (now (text .entry)) at (length (now (bytes .entry)))) (now (bytes .entry)) (now (bytes .exit)) (r .count) (r .next) ⌝ }
+    ensures short { λ r. ⌜ Counts (r .count) (now (bytes .exit)) ⌝ }
+    ensures inside { λ r. ⌜ (at ≤ r .next) × (r .next ≤ length (now (text .entry))) ⌝ }
 {
     if holds(text, at, b':') {
         return bytes_at(text, at + 1, bytes);
@@ -136,11 +144,13 @@ pub struct Line {
 // The line at a place, its numbers and bytes in lent memory. One that hasn't the form, or has no room there, ends the list, and so
 // does a place past the end.
 pub fn line_at(text: &[u8], at: usize, numbers: &mut [usize], bytes: &mut [u8]) -> Line
-    ensures { λ r. ⌜ Counts (r .count) (now (numbers .exit)) ⌝ }
-    ensures { λ r. ⌜ Counts (r .len) (now (bytes .exit)) ⌝ }
-    ensures { λ r. ⌜ r .next ≤ length (now (text .entry)) ⌝ }
-    ensures { λ r. ⌜ (at < length (now (text .entry)) → at < r .next) ⌝ }
-    ensures { λ r. ⌜ (length (now (text .entry)) ≤ at → r .count ≡ 0) ⌝ }
+    ensures { λ r. ⌜ r ≡ lineAt (now (text .entry)) at (length (now (numbers .entry))) (length (now (bytes .entry))) ⌝ }
+    ensures { λ r. ⌜ now (numbers .exit) ≡ over (numbersOf (now (text .entry)) at (length (now (numbers .entry))) .0) (now (numbers .entry)) ⌝ }
+    ensures { λ r. ⌜ now (bytes .exit) ≡ over (bytesOf (now (text .entry)) at (length (now (numbers .entry))) (length (now (bytes .entry))) .0) (now (bytes .entry)) ⌝ }
+    ensures short { λ r. ⌜ Counts (r .count) (now (numbers .exit)) × Counts (r .len) (now (bytes .exit)) ⌝ }
+    ensures inside { λ r. ⌜ r .next ≤ length (now (text .entry)) ⌝ }
+    ensures onward { λ r. ⌜ (at < length (now (text .entry)) → at < r .next) ⌝ }
+    ensures ended { λ r. ⌜ (length (now (text .entry)) ≤ at → r .count ≡ 0) ⌝ }
 {
     if text.len() <= at {
         return Line {
@@ -179,10 +189,12 @@ pub struct Row {
 }
 
 pub fn row_at(text: &[u8], at: usize, bytes: &mut [u8]) -> Row
-    ensures { λ r. ⌜ Counts (r .len) (now (bytes .exit)) ⌝ }
-    ensures { λ r. ⌜ (r .next ≤ length (now (text .entry))) × (r .count ≤ 20) ⌝ }
-    ensures { λ r. ⌜ (at < length (now (text .entry)) → at < r .next) ⌝ }
-    ensures { λ r. ⌜ (length (now (text .entry)) ≤ at → r .count ≡ 0) ⌝ }
+    ensures { λ r. ⌜ r ≡ rowAt (now (text .entry)) at (length (now (bytes .entry))) ⌝ }
+    ensures { λ r. ⌜ now (bytes .exit) ≡ over (bytesOf (now (text .entry)) at 20 (length (now (bytes .entry))) .0) (now (bytes .entry)) ⌝ }
+    ensures short { λ r. ⌜ Counts (r .len) (now (bytes .exit)) ⌝ }
+    ensures inside { λ r. ⌜ (r .next ≤ length (now (text .entry))) × (r .count ≤ 20) ⌝ }
+    ensures onward { λ r. ⌜ (at < length (now (text .entry)) → at < r .next) ⌝ }
+    ensures ended { λ r. ⌜ (length (now (text .entry)) ≤ at → r .count ≡ 0) ⌝ }
 {
     let mut numbers = [0usize; 20];
     let line = line_at(text, at, &mut numbers, bytes);

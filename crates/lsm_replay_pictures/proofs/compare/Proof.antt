@@ -43,10 +43,10 @@ counted-requires : tie.Need-counted-requires Inv-loop μ-loop
 counted-requires c κs = search needs
 
 loop-less : tie.Need-loop-less Inv-loop μ-loop
-loop-less c = omega (arith, c .before .before .before .before .before .before .before .line-at .ensures .1 .1 .1 .0 (omega arith))
+loop-less c = omega (arith, c .before .before .before .before .before .before .before .line-at .ensures .1 .1 .1 .1 .1 .0 (omega arith))
 
 loop-again : tie.Need-loop-again Inv-loop μ-loop
-loop-again c = let next = c .before .before .before .before .before .before .before .line-at .ensures .1 .1 .1 .0 (omega arith) in (omega arith, omega (arith, next), omega arith, omega arith)
+loop-again c = let next = c .before .before .before .before .before .before .before .line-at .ensures .1 .1 .1 .1 .1 .0 (omega arith) in (omega arith, omega (arith, next), omega arith, omega arith)
 
 returns : tie.Need-returns Inv-loop μ-loop
 returns c = search needs

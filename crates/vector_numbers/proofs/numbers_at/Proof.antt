@@ -3,12 +3,12 @@ use Prim.Native.Nat.{_-_, _≤_}
 use native.Mathlib.Omega.{arith}
 use borrow.Author.Needs.{needs}
 use borrow.Author.Tests.{not-true, not-false}
-use mathlib.Core.Path.{refl, sym, _∙_}
+use mathlib.Core.Path.{sym, _∙_}
 use lib.ListN.{length}
 use Rattle.io.proofs.Counting.{counts}
 use Rattle.vector_numbers.specs.Numbers as Numbers
 use Rattle.vector_numbers.specs.Numbers.{numbersAt}
-use Rattle.vector_numbers.proofs.Laws.{numbers-more, numbers-stop, numbers-bare, numbers-full, numbers-from, numbers-past, Sofar, nothing-yet, one-more, read-all}
+use Rattle.vector_numbers.proofs.Laws.{numbers-more, numbers-stop, numbers-bare, numbers-full, numbers-from, numbers-past, Sofar, nothing-yet, one-more, read-all, read-none}
 use Rattle.vector_numbers.proofs.numbers_at.Statement.{statement}
 use Rattle.vector_numbers.proofs.numbers_at.Tie as tie
 
@@ -20,7 +20,7 @@ abbrev μ-loop : tie.MeasureT-loop
 μ-loop text from numbers₀ at₀ n₀ numbers at n = length numbers₀ - n
 
 returns : tie.Need-returns Inv-loop μ-loop
-returns c = (read-all _ (nothing-yet _ _ _ (numbers-past _ _ _ (omega arith))) refl, (search needs, (omega arith, λ h. absurd (omega arith))))
+returns c = (read-none _ (numbers-past _ _ _ (omega arith)), (search needs, (omega arith, λ h. absurd (omega arith))))
 
 loop-holds : tie.Need-loop-holds Inv-loop μ-loop
 loop-holds c = (nothing-yet _ _ _ (numbers-from _ _ _ (omega arith)), omega arith, omega arith)

@@ -1,12 +1,25 @@
 -- `vector_text::line_at` meets its contract. Assumes nothing.
 use native.Mathlib.Omega.{arith}
+use mathlib.Core.Path.{refl, sym, _∙_}
 use borrow.Author.Needs.{needs}
-use borrow.Author.Tests.{not-false}
+use borrow.Author.Tests.{not-true, not-false}
+use lib.ListN.{length, List·getD-eq-default}
+use Rattle.vector_numbers.proofs.Laws.{outside}
+use Rattle.vector_text.proofs.Laws.{numbers-of, bytes-of, numbers-none, bytes-none, line-whole, line-broken}
 use Rattle.vector_text.proofs.line_at.Statement.{statement}
 use Rattle.vector_text.proofs.line_at.Tie as tie
 
 returns : tie.Need-returns
-returns c = search needs
+returns c =
+    let text = c .before .before .before .before .args .text .now in
+    let at = c .before .before .before .before .args .at in
+    let ns = c .before .before .before .before .args .numbers .now in
+    let bs = c .before .before .before .before .args .bytes .now in
+    let n = numbers-none text at (length ns) ns (omega arith) in
+    let r = bytes-none text at (length ns) (length bs) ns bs (omega arith) in (
+      line-broken _ _ _ _ n r 0 (sym (List·getD-eq-default text 0 (omega arith))) (sym (outside _ _ _ (omega arith))),
+      (n .memory, (r .memory, search needs)),
+    )
 
 shared-slice-read-kind : tie.Need-shared-slice-read-kind
 shared-slice-read-kind c = search needs
@@ -30,7 +43,10 @@ same-length-2 : tie.Need-same-length-2
 same-length-2 c = search needs
 
 returns-2 : tie.Need-returns-2
-returns-2 c = search needs
+returns-2 c =
+    let n = numbers-of _ _ _ (c .before .before .before .before .before .before .before .before .numbers-at .ensures .0) in
+    let r = bytes-of _ _ _ _ n (c .before .before .before .before .tail-at .ensures .0) in
+    (line-broken _ _ _ _ n r _ refl (sym (c .before .holds .ensures .0) ∙ not-true _ (c .if2 .taken)), (n .memory, (r .memory, search needs)))
 
 add-t8 : tie.Need-add-t8
 add-t8 c = search needs
@@ -43,9 +59,17 @@ same-length-4 c = search needs
 
 returns-3 : tie.Need-returns-3
 returns-3 c =
-    let h = c .before .before .holds .ensures .1 (not-false _ (c .before .if2 .left)) in
-    let n = c .before .before .before .before .before .before .before .before .before .numbers-at .ensures .1 .1 .1 (omega arith) in
-    (search needs, (search needs, (omega (arith, h), (λ k. omega (arith, h, n), λ k. absurd (omega arith)))))
+    let numbers = c .before .before .before .before .before .before .before .before .before .numbers-at .ensures in
+    let tail = c .before .before .before .before .before .tail-at .ensures in
+    let holds = c .before .before .holds .ensures in
+    let feed = not-false _ (c .before .if2 .left) in
+    let n = numbers-of _ _ _ (numbers .0) in
+    let r = bytes-of _ _ _ _ n (tail .0) in
+    let h = holds .1 feed in
+    let k = numbers .1 .1 .1 (omega arith) in (
+      line-whole _ _ _ _ n r _ refl (sym (holds .0) ∙ feed),
+      (n .memory, (r .memory, ((numbers .1 .0, tail .1 .0), (omega (arith, h), (λ j. omega (arith, h, k), λ j. absurd (omega arith)))))),
+    )
 
 pub line-at-spec : {M : Type 1} → statement M
 line-at-spec =

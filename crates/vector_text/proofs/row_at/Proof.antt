@@ -1,6 +1,7 @@
 -- `vector_text::row_at` meets its contract. Assumes nothing.
 use native.Mathlib.Omega.{arith}
 use borrow.Author.Needs.{needs}
+use Rattle.vector_text.proofs.Laws.{row-is}
 use Rattle.vector_text.proofs.row_at.Statement.{statement}
 use Rattle.vector_text.proofs.row_at.Tie as tie
 
@@ -14,7 +15,9 @@ same-length : tie.Need-same-length
 same-length c = search needs
 
 returns : tie.Need-returns
-returns c = (search needs, ((omega arith, omega arith), (search needs, search needs)))
+returns c =
+    let line = c .before .before .before .line-at .ensures in
+    (row-is _ _ _ _ _ (line .0) (line .1 .0), (line .1 .1 .0, (line .1 .1 .1 .0 .1, ((omega arith, omega arith), (search needs, search needs)))))
 
 pub row-at-spec : {M : Type 1} → statement M
 row-at-spec = tie.close (tie.spec slice-aggregate-line-at line-at-requires same-length returns)

@@ -1,6 +1,9 @@
 -- `vector_text::tail_at` meets its contract. Assumes nothing.
 use native.Mathlib.Omega.{arith}
+use mathlib.Core.Path.{sym, _∙_}
 use borrow.Author.Needs.{needs}
+use Rattle.vector_numbers.proofs.Laws.{read-none}
+use Rattle.vector_text.proofs.Laws.{tail-is, tail-none, read-as}
 use Rattle.vector_text.proofs.tail_at.Statement.{statement}
 use Rattle.vector_text.proofs.tail_at.Tie as tie
 
@@ -18,11 +21,16 @@ same-length c = search needs
 
 returns : tie.Need-returns
 returns c =
-    let h = c .before .before .before .before .before .holds .ensures .1 (c .before .before .before .before .if1 .taken) in
-    (search needs, (omega (arith, c .before .before .bytes-at .ensures .1 .1 (omega (arith, h))), omega arith))
+    let holds = c .before .before .before .before .before .holds .ensures in
+    let colon = c .before .before .before .before .if1 .taken in
+    let bytes = c .before .before .bytes-at .ensures in
+    let h = holds .1 colon in (
+      read-as (tail-is _ _ _ (sym (holds .0) ∙ colon)) (bytes .0),
+      (bytes .1 .0, (omega (arith, bytes .1 .1 .1 (omega (arith, h))), omega arith)),
+    )
 
 returns-2 : tie.Need-returns-2
-returns-2 c = search needs
+returns-2 c = (read-none _ (tail-none _ _ _ (sym (c .before .holds .ensures .0) ∙ c .if1 .left)), search needs)
 
 pub tail-at-spec : {M : Type 1} → statement M
 tail-at-spec =
