@@ -1,5 +1,6 @@
 #!/usr/bin/env python3
-"""Checks that every path, definition, function, edit, marked row and law that docs/PROMISES.md names exists. Run at the root."""
+"""Checks that every path, definition, function, edit, marked row and law that docs/PROMISES.md names exists, and that it names every
+must-fail edit. Run at the root; the exit status is 1 where one of these fails."""
 import re, glob, os, sys
 bad = []
 def text(pattern):
@@ -74,6 +75,7 @@ for no, line in enumerate(open('docs/PROMISES.md'), 1):
             if name.strip() not in programs: bad.append((no, 'notice', name))
 used = set(re.findall(r'[a-z_0-9-]+', open('docs/PROMISES.md').read()))
 for p in sorted(glob.glob('crates/*/must-fail/*.edit')):
-    if os.path.basename(p)[:-5] not in used: print('not named:', p)
+    if os.path.basename(p)[:-5] not in used: bad.append((0, 'not named', p))
 for b in bad: print('line %d: %s: %s' % b)
 print(n, 'names,', len(bad), 'not there')
+sys.exit(1 if bad else 0)
