@@ -5,51 +5,19 @@ use crate::ground::ground;
 use crate::voxels::voxels;
 use libc::STDIN_FILENO;
 use libc::STDOUT_FILENO;
+use vector_report::Tally;
+use vector_report::report;
 use vector_text::Row;
 use vector_text::row_at;
 ghost use mathlib.Core.Path.{_≡_};
 ghost use mathlib.Core.Bool.{true};
-ghost use Prim.Native.Nat.{_+_, _<_, _≤_};
-ghost use lib.Dec.{eqb};
+ghost use Prim.Native.Nat.{_<_, _≤_};
 ghost use lib.ListN.{length};
 
 mod answer;
 mod cz;
 mod ground;
 mod voxels;
-
-// How many lines of a list there were, and how many differ.
-struct Tally {
-    cases: usize,
-    differ: usize,
-}
-
-impl Tally {
-    fn none() -> Tally
-        ensures { λ r. ⌜ (r .cases ≡ 0) × (r .differ ≡ 0) ⌝ }
-    {
-        Tally {
-            cases: 0,
-            differ: 0,
-        }
-    }
-
-    fn counted(self, agrees: bool) -> Tally
-        requires { ⌜ (self .differ ≤ self .cases) × (self .cases + 1 < 18446744073709551616) ⌝ }
-        ensures { λ r. ⌜ (r .cases ≡ self .cases + 1) × (r .differ ≤ r .cases) ⌝ }
-    {
-        if agrees {
-            return Tally {
-                cases: self.cases + 1,
-                differ: self.differ,
-            };
-        }
-        Tally {
-            cases: self.cases + 1,
-            differ: self.differ + 1,
-        }
-    }
-}
 
 // Whether the answer is the line's. A letter that stands for nothing differs.
 fn agrees(row: Row, bytes: &[u8]) -> bool
@@ -116,18 +84,6 @@ fn compare(text: &[u8]) -> Tallies
         voxels,
         blocks,
     }
-}
-
-// Writes how many of a list differ, and says whether none does.
-fn report(name: &[u8], t: Tally) -> bool
-    ensures { λ r. ⌜ r ≡ eqb (t .differ) 0 ⌝ }
-{
-    io::write_all(STDOUT_FILENO, name);
-    io::print_decimal(STDOUT_FILENO, t.cases as u64);
-    io::write_all(STDOUT_FILENO, b", ");
-    io::print_decimal(STDOUT_FILENO, t.differ as u64);
-    io::write_all(STDOUT_FILENO, b" differ\n");
-    t.differ == 0
 }
 
 fn main() {
