@@ -11,6 +11,7 @@ pub const WORD: usize = 0xa5a5_a5a5_a5a5_a5a5;
 // What lent bytes hold before a call. It is in no UTF-8 text by itself.
 pub const BYTE: u8 = 0xa5;
 
+// Whether the words are the others, all of them.
 pub fn same_words(a: &[usize], b: &[usize]) -> bool
     ensures { λ r. ⌜ r ≡ same (now (a .entry)) (now (b .entry)) ⌝ }
 {
@@ -44,6 +45,7 @@ fn wide(b: u8) -> usize
     b as usize
 }
 
+// Whether the words are the bytes, all of them.
 pub fn same_bytes(words: &[usize], bytes: &[u8]) -> bool
     ensures { λ r. ⌜ r ≡ same (now (words .entry)) (now (bytes .entry)) ⌝ }
 {

@@ -65,7 +65,7 @@ unfoldable pub lineAt : List ℕ → ℕ → ℕ → ℕ → Line
 lineAt text at wide long =
     lineOf (holdsAt text (bytesOf text at wide long .1) 10) (getD text at 0) (numbersOf text at wide) (bytesOf text at wide long) (length text)
 
--- The same with its numbers, of which there are twenty at most; the others are 0.
+-- The same with the numbers that were read, twenty at most, also where the line hasn't the form; the others of the twenty are 0.
 unfoldable pub rowAt : List ℕ → ℕ → ℕ → Row
 rowAt text at long =
     record {

@@ -142,7 +142,7 @@ pub struct Line {
 }
 
 // The line at a place, its numbers and bytes in lent memory. One that hasn't the form, or has no room there, ends the list, and so
-// does a place past the end.
+// does a place past the end; what was read of it is in lent memory all the same.
 pub fn line_at(text: &[u8], at: usize, numbers: &mut [usize], bytes: &mut [u8]) -> Line
     ensures { λ r. ⌜ r ≡ lineAt (now (text .entry)) at (length (now (numbers .entry))) (length (now (bytes .entry))) ⌝ }
     ensures { λ r. ⌜ now (numbers .exit) ≡ over (numbersOf (now (text .entry)) at (length (now (numbers .entry))) .0) (now (numbers .entry)) ⌝ }
@@ -188,6 +188,7 @@ pub struct Row {
     pub next: usize,
 }
 
+// The line at a place with its numbers, its bytes in lent memory.
 pub fn row_at(text: &[u8], at: usize, bytes: &mut [u8]) -> Row
     ensures { λ r. ⌜ r ≡ rowAt (now (text .entry)) at (length (now (bytes .entry))) ⌝ }
     ensures { λ r. ⌜ now (bytes .exit) ≡ over (bytesOf (now (text .entry)) at 20 (length (now (bytes .entry))) .0) (now (bytes .entry)) ⌝ }
