@@ -1,63 +1,15 @@
 // Decodes the bytes of each line of standard input, and compares with the text that the line says. A line has the bytes, a
-// space and the text, both in hexadecimal. tools/utf8_vectors.rs writes the list.
+// space and the text, both as vector_text has bytes. tools/utf8_vectors.rs writes the list.
 use libc::STDIN_FILENO;
 use libc::STDOUT_FILENO;
 use utf8::Decoded;
+use vector_numbers::holds;
+use vector_text::bytes_at;
 ghost use mathlib.Core.Path.{_≡_};
 ghost use mathlib.Core.Bool.{true};
-ghost use Prim.Native.Nat.{_+_, _*_, _<_, _≤_};
+ghost use Prim.Native.Nat.{_<_, _≤_};
 ghost use lib.ListN.{length};
-ghost use Rattle.io.specs.Counts.{Counts};
 ghost use Rattle.lsm_format.specs.Utf8.{lossy};
-
-// The value of a hexadecimal digit; 16 for another byte.
-fn digit(b: u8) -> u8
-    ensures { λ r. ⌜ r ≤ 16 ⌝ }
-{
-    match b {
-        b'0'..=b'9' => b - b'0',
-        b'a'..=b'f' => b - b'a' + 10,
-        _ => 16,
-    }
-}
-
-// Reads pairs of digits from a place on, and says how many there were.
-fn field(text: &[u8], from: usize, bytes: &mut [u8]) -> usize
-    requires { ⌜ from ≤ length (now text) ⌝ }
-    ensures { λ r. ⌜ Counts r (now (bytes .exit)) ⌝ }
-    ensures { λ r. ⌜ from + 2 * r ≤ length (now (text .entry)) ⌝ }
-{
-    let mut at = from;
-    let mut n = 0;
-    while n < bytes.len() {
-        if text.len() - at < 2 {
-            return n;
-        }
-        let high = digit(text[at]);
-        let low = digit(text[at + 1]);
-        if high == 16 {
-            return n;
-        }
-        if low == 16 {
-            return n;
-        }
-        bytes[n] = high * 16 + low;
-        at += 2;
-        n += 1;
-    }
-    n
-}
-
-// Whether a byte stands at a place.
-fn holds(text: &[u8], at: usize, b: u8) -> bool
-    ensures { λ r. ⌜ (r ≡ true → at < length (now (text .entry))) ⌝ }
-{
-    if at < text.len() {
-        text[at] == b
-    } else {
-        false
-    }
-}
 
 // Whether the bytes decode to the text, into memory that has room for it.
 fn agrees(bytes: &[u8], text: &[u8], out: &mut [u8]) -> bool
@@ -87,19 +39,19 @@ fn line_at(text: &[u8], at: usize) -> Line
         agrees: false,
         next: text.len(),
     };
-    let n = field(text, at, &mut bytes);
-    let gap = at + 2 * n;
-    if !holds(text, gap, b' ') {
+    let first = bytes_at(text, at, &mut bytes);
+    if !holds(text, first.next, b' ') {
         return broken;
     }
-    let m = field(text, gap + 1, &mut expected);
-    let end = gap + 1 + 2 * m;
-    if !holds(text, end, b'\n') {
+    let second = bytes_at(text, first.next + 1, &mut expected);
+    if !holds(text, second.next, b'\n') {
         return broken;
     }
+    let n = first.count;
+    let m = second.count;
     Line {
         agrees: agrees(&bytes[..n], &expected[..m], &mut out[..m]),
-        next: end + 1,
+        next: second.next + 1,
     }
 }
 

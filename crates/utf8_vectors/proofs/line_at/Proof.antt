@@ -1,23 +1,17 @@
 -- `utf8_vectors::line_at` meets its contract. Assumes nothing.
 use native.Mathlib.Omega.{arith}
 use mathlib.Core.Path.{sym}
-use borrow.Author.Needs.{needs}
 use borrow.Author.Tests.{not-false}
 use lib.Seq.{length-take-le}
+use borrow.Author.Needs.{needs}
 use Rattle.utf8_vectors.proofs.line_at.Statement.{statement}
 use Rattle.utf8_vectors.proofs.line_at.Tie as tie
 
-slice-aggregate-field : tie.Need-slice-aggregate-field
-slice-aggregate-field c = search needs
+slice-aggregate-bytes-at : tie.Need-slice-aggregate-bytes-at
+slice-aggregate-bytes-at c = search needs
 
-field-requires : tie.Need-field-requires
-field-requires c κs = search needs
-
-mul-gap : tie.Need-mul-gap
-mul-gap c = search needs
-
-add-gap : tie.Need-add-gap
-add-gap c = search needs
+bytes-at-requires : tie.Need-bytes-at-requires
+bytes-at-requires c κs = search needs
 
 holds-requires : tie.Need-holds-requires
 holds-requires c κs = search needs
@@ -25,23 +19,14 @@ holds-requires c κs = search needs
 returns : tie.Need-returns
 returns c = search needs
 
-add-field : tie.Need-add-field
-add-field c = search needs
+add-bytes-at : tie.Need-add-bytes-at
+add-bytes-at c = search needs
 
-slice-aggregate-field-2 : tie.Need-slice-aggregate-field-2
-slice-aggregate-field-2 c = search needs
+slice-aggregate-bytes-at-2 : tie.Need-slice-aggregate-bytes-at-2
+slice-aggregate-bytes-at-2 c = search needs
 
-field-requires-2 : tie.Need-field-requires-2
-field-requires-2 c κs = omega (arith, c .before .before .holds .ensures (not-false _ (c .before .if1 .left)))
-
-add-end : tie.Need-add-end
-add-end c = search needs
-
-mul-end : tie.Need-mul-end
-mul-end c = search needs
-
-add-end-2 : tie.Need-add-end-2
-add-end-2 c = search needs
+bytes-at-requires-2 : tie.Need-bytes-at-requires-2
+bytes-at-requires-2 c κs = search needs
 
 holds-requires-2 : tie.Need-holds-requires-2
 holds-requires-2 c κs = search needs
@@ -65,33 +50,38 @@ array-borrow-prefix-out : tie.Need-array-borrow-prefix-out
 array-borrow-prefix-out c = search needs
 
 slice-aggregate-agrees-3 : tie.Need-slice-aggregate-agrees-3
-slice-aggregate-agrees-3 c = sym (length-take-le _ _ (omega (arith, c .before .before .before .before .before .before .field2 .ensures .0 .0, c .before .before .before .before .before .before .field2 .kept)))
+slice-aggregate-agrees-3 c = sym (length-take-le _ _ (omega (arith, c .before .before .before .before .before .before .bytes-at2 .ensures .1 .0 .0, c .before .before .before .before .before .before .bytes-at2 .kept)))
 
 agrees-requires : tie.Need-agrees-requires
 agrees-requires c κs = search needs
 
-add-t18 : tie.Need-add-t18
-add-t18 c = search needs
+add-t11 : tie.Need-add-t11
+add-t11 c = search needs
 
 returns-3 : tie.Need-returns-3
-returns-3 c = omega (arith, c .before .before .before .before .before .before .holds2 .ensures (not-false _ (c .before .before .before .before .before .if2 .left)))
+returns-3 c =
+    let t = c .before .before .before .before .before .before in
+    let first = t .before .before .before .before .before .before .before .holds .ensures .1 (not-false _ (t .before .before .before .before .before .before .if1 .left)) in
+    let second = t .before .holds2 .ensures .1 (not-false _ (t .if2 .left)) in
+    omega (
+      arith,
+      first,
+      second,
+      t .before .before .before .bytes-at2 .ensures .1 .1 .1 (omega arith),
+      t .before .before .before .before .before .before .before .before .before .bytes-at .ensures .1 .1 .1 (omega arith),
+    )
 
 pub line-at-spec : {M : Type 1} → statement M
 line-at-spec =
     tie.close
     (tie.spec
-    slice-aggregate-field
-    field-requires
-    mul-gap
-    add-gap
+    slice-aggregate-bytes-at
+    bytes-at-requires
     holds-requires
     returns
-    add-field
-    slice-aggregate-field-2
-    field-requires-2
-    add-end
-    mul-end
-    add-end-2
+    add-bytes-at
+    slice-aggregate-bytes-at-2
+    bytes-at-requires-2
     holds-requires-2
     returns-2
     array-share-prefix-bytes
@@ -101,5 +91,5 @@ line-at-spec =
     array-borrow-prefix-out
     slice-aggregate-agrees-3
     agrees-requires
-    add-t18
+    add-t11
     returns-3)
