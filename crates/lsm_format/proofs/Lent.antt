@@ -3,10 +3,12 @@ use Prim.Native.Nat.{ℕ, _-_, _^_, _≤_, _<_, min}
 use mathlib.Core.Path.{_≡_, ap}
 use mathlib.Core.Bool.{Bool, true, false}
 use mathlib.Core.List.{List, _++_}
-use borrow.Author.Tests.{le-leb, lt-leb}
+use borrow.Author.Tests.{le-leb, lt-leb, leb-true}
+use lib.Dec.{leb}
 use lib.ListN.{length, drop}
 use Rattle.lsm_format.specs.Answer.{accepted, refused, bind, tooShort}
 use Rattle.lsm_format.specs.Lent.{lend, filled}
+use Rattle.lsm_format.proofs.Accepting.{Accepting, accepting-bind, accepting-need}
 
 -- the answer has room: its length is accepted
 pub lend-room : (needed room : ℕ) → needed ≤ room → lend needed room ≡ accepted needed
@@ -17,6 +19,11 @@ lend-room needed room h = rw (le-leb needed room h)
 pub lend-short : (needed room : ℕ) → room < needed → lend needed room ≡ refused (tooShort (min needed (2 ^ 64 - 1)))
 unfolding lend bind
 lend-short needed room h = rw (lt-leb needed room h)
+
+-- what is accepted has room
+pub lend-fits : (needed room : ℕ) → Accepting (λ (n : ℕ). needed ≤ room) (lend needed room)
+unfolding lend Accepting
+lend-fits needed room = accepting-bind _ _ _ _ (accepting-need (tooShort _) (leb needed room)) (λ _ t. leb-true _ _ t)
 
 -- the answer has room: it stands at the front, and the rest is as it was
 pub filled-room : (answer lent : List ℕ) → length answer ≤ length lent → filled answer lent ≡ answer ++ drop (length answer) lent

@@ -2,6 +2,7 @@
 // its bytes. tools/list_files.py makes them.
 use libc::STDIN_FILENO;
 use lsm_printout::print;
+ghost use mathlib.Core.Path.{_≡_};
 ghost use Prim.Native.Nat.{_+_, _≤_, _<_};
 ghost use lib.ListN.{length};
 
@@ -40,11 +41,15 @@ fn next(all: &[u8], at: usize) -> usize
     end
 }
 
-fn list_all(all: &[u8]) {
+// Lists them all, and answers where they end.
+fn list_all(all: &[u8]) -> usize
+    ensures { λ r. ⌜ r ≡ length (now (all .entry)) ⌝ }
+{
     let mut at = 0;
     while at < all.len() {
         at = next(all, at);
     }
+    at
 }
 
 fn main() {

@@ -14,8 +14,8 @@ use Rattle.lsm_format.specs.Lent.{lend}
 use Rattle.lsm_format.specs.Open.{Opened, read, openFile, openMemory, tableBy, openRanges}
 use Rattle.lsm_format.specs.Picture.{Samples, plane, region, into, bufferBy}
 use Rattle.lsm_format.specs.Listed.{stripsRanges, channelBlockRanges, regionRanges, listed, listedFor}
-use Rattle.lsm_format.proofs.Lent.{filled-room}
-use Rattle.lsm_format.proofs.Accepting.{Accepting, accepting-bind, accepting-need, accepting-self, accepting-told}
+use Rattle.lsm_format.proofs.Lent.{lend-fits, filled-room}
+use Rattle.lsm_format.proofs.Accepting.{Accepting, accepting-bind, accepting-self, accepting-told}
 use Rattle.lsm_format.proofs.Opened.{Fits, read-fits}
 use Rattle.lsm_overwrite.specs.Blind.{Overwritten, Held, planeOf, regionOf, lookupOf, lookupLeft, OpensAlike, RegionAlike, SpareBytes, SpareSamples}
 use Rattle.lsm_overwrite.proofs.TwoFiles.{agree, agree-self, over-given, in-file-at, on-part}
@@ -24,10 +24,6 @@ use Rattle.lsm_overwrite.proofs.Channels.{lookup-listed, memory-listed}
 use Rattle.lsm_overwrite.proofs.Picture.{plane-law, region-law, region-all}
 
 -- ---- what is held of an opened file
-
-lend-fits : (needed room : ℕ) → Accepting (λ (n : ℕ). needed ≤ room) (lend needed room)
-unfolding lend Accepting
-lend-fits needed room = accepting-bind _ _ _ _ (accepting-need _ (leb needed room)) (λ _ t. leb-true _ _ t)
 
 open-read : (f : List ℕ) (room : ℕ) → Accepting (λ (x : Opened). (read f ≡ accepted x) × (length (x .table) ≤ room)) (openFile f room)
 unfolding openFile Accepting

@@ -31,7 +31,6 @@ printout-told f {s} h e =
 
 -- a text that has room is listed whole
 pub record Whole (t after : List ℕ) (r : ℕ) : Type 0 where
-  pub count : r ≡ length t
   pub inside : r ≤ length after
   pub text : take r after ≡ t
 
@@ -40,7 +39,7 @@ listed-whole t before {after} {r} h x =
     let e : r ≡ length t = rw (le-leb (length t) (length before) h) at (x .reached) in
     let k : length after ≡ length before =
     ap length (x .memory) ∙ length-take-le (length before) (t ++ drop (length t) before) (rw (length-append, length-drop) (omega arith)) in
-    record { count = e; inside = omega arith; text = rw (e, x .memory, take-take (length t) (length before) _ h, take-append-seam) }
+    record { inside = omega arith; text = rw (e, x .memory, take-take (length t) (length before) _ h, take-append-seam) }
 
 -- every printout is
 pub printout-whole : (f before : List ℕ) (n : ℕ) {after : List ℕ} {r : ℕ} → ((i : ℕ) → getD f i 0 < 256) → n ≡ length before → 524288 ≤ n

@@ -79,11 +79,13 @@ pub fn list(buf: &[u8], out: &mut [u8]) -> usize
     put_answer(out, 0, buf, answer)
 }
 
-// Writes a file's printout, and nothing else, to standard output.
-fn write_printout(_buf: &[u8], text: &[u8])
+// Writes a file's printout, and nothing else, to standard output; answers its length.
+fn write_printout(_buf: &[u8], text: &[u8]) -> usize
     requires { ⌜ now text ≡ printout (now «_buf») ⌝ }
+    ensures { λ r. ⌜ r ≡ length (printout (now («_buf» .entry))) ⌝ }
 {
     io::write_all(STDOUT_FILENO, text);
+    text.len()
 }
 
 // Lists a file and writes its printout to standard output; answers its length. Every printout has room in `out`.
@@ -92,6 +94,5 @@ pub fn print(buf: &[u8]) -> usize
 {
     let mut out = [0u8; 524288];
     let n = list(buf, &mut out);
-    write_printout(buf, &out[..n]);
-    n
+    write_printout(buf, &out[..n])
 }

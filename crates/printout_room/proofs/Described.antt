@@ -20,6 +20,7 @@ use Rattle.lsm_format.specs.Open.{Description, Opened, agreement, layoutFor, de
 use Rattle.lsm_format.specs.Picture.{stripsPerPage}
 use Rattle.lsm_format.proofs.Numbers.{number-past, number-there, signed-low, signed-high, less-than-all}
 use Rattle.lsm_format.proofs.Accepting.{Accepting, accepting-bind, accepting-then, accepting-need, accepting-self, accepting-told, both-hold}
+use Rattle.lsm_format.proofs.Lent.{lend-fits}
 use Rattle.lsm_format.proofs.Opened.{Fits, read-fits}
 
 -- ---- numbers in a file of bytes
@@ -159,11 +160,6 @@ few d table small fits room =
 read-few : (f : List ℕ) → Bytes f → (x : Opened) → read f ≡ accepted x → length (x .table) ≤ 4096 → Few (x .description)
 read-few f bytes x e room =
     few (x .description) (x .table) (accepting-told _ (read f) x (read-small f bytes) e) (accepting-told _ (read f) x (read-fits f) e .1) room
-
--- what is accepted has room
-lend-fits : (needed room : ℕ) → Accepting (λ (n : ℕ). needed ≤ room) (lend needed room)
-unfolding lend Accepting
-lend-fits needed room = accepting-bind _ _ _ _ (accepting-need (tooShort _) (leb needed room)) (λ _ t. leb-true _ _ t)
 
 pub open-few : (f : List ℕ) → Bytes f → Accepting (λ (x : Opened). Few (x .description)) (openFile f 4096)
 unfolding openFile Accepting

@@ -31,7 +31,7 @@ write-printout-requires : tie.Need-write-printout-requires
 write-printout-requires c κs = known (c .before .before) .text
 
 returns : tie.Need-returns
-returns c = known (c .before .before .before) .count
+returns c = c .write-printout .ensures
 
 pub print-spec : {M : Type 1} → statement M
 print-spec =
