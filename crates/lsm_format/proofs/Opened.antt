@@ -1,23 +1,23 @@
--- What holds of every file that opens: it has a header, and its table holds as many pages as its description has. Assumes nothing.
-use Prim.Native.Nat.{ℕ, _*_, _/_, _%_, _≤_, _<_, max}
+-- What holds of every file that opens: its table holds as many pages as its description has. Assumes nothing.
+use Prim.Native.Nat.{ℕ, _*_, _/_, _%_, _<_, max}
 use native.Mathlib.Nat.{div-add-mod', mul-comm}
 use native.Mathlib.Omega.{arith}
 use mathlib.Core.Bool.{true, not, _&&_}
 use mathlib.Core.Option.{Option}
 use mathlib.Core.Path.{_≡_, refl, sym, subst, _∙_}
 use mathlib.Core.List.{List}
-use lib.Dec.{leb, eqb}
+use lib.Dec.{eqb}
 use lib.IntN.{ℤ}
 use lib.ListN.{length}
-use borrow.Author.Tests.{leb-true, eqb-true, eqb-false, not-true}
-use Rattle.lsm_format.specs.Answer.{parse, decode}
+use borrow.Author.Tests.{eqb-true, eqb-false, not-true}
+use Rattle.lsm_format.specs.Answer.{decode}
 use Rattle.lsm_format.specs.Words.{word}
 use Rattle.lsm_format.specs.Numbers.{Order}
 use Rattle.lsm_format.specs.Sizes.{Kind}
 use Rattle.lsm_format.specs.Scenes.{Layout, layout, pagesExpected}
 use Rattle.lsm_format.specs.CzInfo.{CzInfo}
 use Rattle.lsm_format.specs.Directory.{Directory}
-use Rattle.lsm_format.specs.Open.{Walk, Description, Opened, tiffHeader, agreement, layoutFor, describe, describeWalk, tableWords, read}
+use Rattle.lsm_format.specs.Open.{Walk, Description, Opened, agreement, layoutFor, describe, describeWalk, tableWords, read}
 use Rattle.lsm_format.specs.Picture.{stripsPerPage}
 use Rattle.lsm_format.proofs.Words.{word-some}
 use Rattle.lsm_format.proofs.Accepting.{Accepting, accepting-bind, accepting-then, accepting-need, accepting-given, both-hold}
@@ -84,15 +84,9 @@ walk-fits o f w even =
     accepting-then _ _ _ (λ i.
     describe-fits o k p (length (w .pages)) i (tableWords (w .pages)) (subst (λ (x : Option Directory). Even x (w .pages)) e even))))))
 
-header-there : (f : List ℕ) → Accepting (λ (o : Order). 8 ≤ length f) (tiffHeader f)
-unfolding tiffHeader Accepting
-header-there f =
-    accepting-bind _ _ _ _ (accepting-need parse (leb 8 (length f))) (λ _ t.
-    accepting-then _ _ _ (λ o. accepting-then _ _ _ (λ magic. accepting-then _ _ _ (λ _. leb-true _ _ t))))
-
-pub read-fits : (f : List ℕ) → Accepting (λ (x : Opened). (8 ≤ length f) × Fits (x .description) (x .table)) (read f)
+pub read-fits : (f : List ℕ) → Accepting (λ (x : Opened). Fits (x .description) (x .table)) (read f)
 unfolding read Accepting
 read-fits f =
     accepting-then _ _ _ (λ _.
-    accepting-bind _ _ _ _ (header-there f) (λ o there.
-    accepting-bind _ _ _ _ (walk-even o f) (λ w even. accepting-bind _ _ _ _ (walk-fits o f w even) (λ d fits. (there, fits)))))
+    accepting-then _ _ _ (λ o.
+    accepting-bind _ _ _ _ (walk-even o f) (λ w even. accepting-bind _ _ _ _ (walk-fits o f w even) (λ d fits. fits))))

@@ -3,7 +3,7 @@ use Prim.Native.Nat.{ℕ, zero, suc, _+_, _-_, _*_, _^_, _<_, _≤_}
 use native.Mathlib.Nat.{add-zero, zero-add, add-suc, suc-add, add-mul, suc-mul, zero-mul, mul-assoc, mul-le-mul-right, add-sub-cancel-left, not-suc-le-zero}
 use native.Mathlib.Numerals.{add-one}
 use native.Mathlib.Omega.{arith}
-use mathlib.Core.Path.{_≡_, refl, sym, ap, ap₂, _∙_}
+use mathlib.Core.Path.{_≡_, refl, sym, ap, _∙_}
 use mathlib.Core.Bool.{Bool, true, false, not, _&&_, and-false}
 use mathlib.Core.Option.{Option, none, some}
 use mathlib.Core.List.{List, [], _∷_, _++_, append-assoc, append-nil}
@@ -17,7 +17,7 @@ use Rattle.lsm_format.specs.Sizes.{Kind, pictureLimit, pictureBytes, unl
 use Rattle.lsm_format.specs.Rectangle.{Dims, Rect, coordinates, within, rectangle}
 use Rattle.lsm_format.specs.Scenes.{pageOf}
 use Rattle.lsm_format.specs.Open.{Description}
-use Rattle.lsm_format.specs.Picture.{offsetOf, countOf, total, place, stored, inside, span, bytes, picture, each, window, stripsPerPage, hasPage, firstStrip, channelStrips, coordinate, planeStrips}
+use Rattle.lsm_format.specs.Picture.{offsetOf, countOf, total, place, inside, span, bytes, picture, each, window, stripsPerPage, hasPage, firstStrip, channelStrips, coordinate, planeStrips}
 use Rattle.lsm_format.proofs.Words.{word-fits, word-some}
 use Rattle.lsm_format.proofs.Accepting.{both-hold}
 
@@ -181,13 +181,6 @@ window-moved p x y r =
     ∙ span-cong (r .y) (r .h) (λ i. span (x + r .x) (r .w) (p (y + i))) (λ i. span (r .x) (r .w) (λ j. p (y + i) (x + j)))
     (λ i l u. span-shift x (r .x) (r .w) (p (y + i))))
 
--- a rectangle of a rectangle's answer
-pub window-window : (p : ℕ → ℕ → List ℕ) (s : ℕ) (r q : Rect) → Even p s r → q .x + q .w ≤ r .w → q .y + q .h ≤ r .h
-    → window (picture (held (window p r)) (r .w) s) q ≡ window p (record { x = r .x + q .x; y = r .y + q .y; w = q .w; h = q .h })
-window-window p s r q e hw hh =
-    window-cong _ (λ i j. p (r .y + i) (r .x + j)) q (λ i j l u lc uc. window-at p s r e i j (omega arith) (omega arith))
-    ∙ window-moved p (r .x) (r .y) q
-
 -- ---- samples changed one by one
 
 span-last : (n : ℕ) (g : ℕ → List ℕ) → span 0 (suc n) g ≡ span 0 n g ++ g n
@@ -278,36 +271,6 @@ pub inside-head : (t : List ℕ) (len i n : ℕ) → 0 < n → inside t len i n 
     → (offsetOf t i + countOf t i ≤ len) × (inside t len (i + 1) (n - 1) ≡ true)
 inside-head t len i n h e = head-by t len i n (leb (offsetOf t i + countOf t i) len) refl h e
 
--- ---- "the channel's joined strips", as a list
-
-abbrev pub joined : List ℕ → List ℕ → ℕ → ℕ → List ℕ
-joined f t i zero = []
-joined f t i (suc n) = take (countOf t i) (drop (offsetOf t i) f) ++ joined f t (i + 1) n
-
-joined-head : (f t : List ℕ) (i n : ℕ) → offsetOf t i + countOf t i ≤ length f
-    → bytes (stored f t i (suc n)) 0 (countOf t i) ≡ take (countOf t i) (drop (offsetOf t i) f)
-unfolding stored
-joined-head f t i n o =
-    bytes-run (stored f t i (suc n)) 0 (countOf t i) f (offsetOf t i) (λ b h. rw (zero-add, place-in t i (suc n) b (omega arith) h)) o
-
-joined-rest : (f t : List ℕ) (i n : ℕ)
-    → bytes (stored f t i (suc n)) (0 + countOf t i) (total t (i + 1) n) ≡ bytes (stored f t (i + 1) n) 0 (total t (i + 1) n)
-unfolding stored
-joined-rest f t i n =
-    let z : suc n - 1 ≡ n = omega arith in
-    bytes-moved _ _ _ 0 (total t (i + 1) n)
-    (λ m u. rw (zero-add, zero-add) (ap (held f) (rw z at (place-past t i (suc n) m (omega arith)))))
-
--- the bytes by their places are the strips' bytes, joined
-pub joined-is : (f t : List ℕ) (i n : ℕ) → inside t (length f) i n ≡ true → bytes (stored f t i n) 0 (total t i n) ≡ joined f t i n
-unfolding total bytes span
-joined-is f t i zero w = refl
-joined-is f t i (suc n) w =
-    let z : suc n - 1 ≡ n = omega arith in
-    let h = inside-head t (length f) i (suc n) (omega arith) w in
-    bytes-add (stored f t i (suc n)) 0 (countOf t i) (total t (i + 1) n)
-    ∙ ap₂ (λ (a b : List ℕ). a ++ b) (joined-head f t i n (h .0)) (joined-rest f t i n ∙ joined-is f t (i + 1) n (rw z at (h .1)))
-
 -- ---- a rule's steps, from its answer
 
 pub given-some : {A : Type 0} (row : List ℕ) (o : Option A) (a : A) → given row o ≡ accepted a → o ≡ some a
@@ -363,6 +326,14 @@ rectangle-within d r u e =
       leb-true _ _ (both-hold (ltb (r .y + r .h) (2 ^ 64)) (leb (r .y + r .h) (d .y)) (b .1) .1),
     )
 
+pub rectangle-ends : (d : Dims) (r : Rect) (u : Unit {0}) → rectangle d r ≡ accepted u → (r .x + r .w < 2 ^ 64) × (r .y + r .h < 2 ^ 64)
+unfolding rectangle
+rectangle-ends d r u e =
+    let b = both-hold (within (r .x) (r .w) (d .x)) (within (r .y) (r .h) (d .y)) (need-true _ _ u e) in (
+      ltb-true _ _ (both-hold (ltb (r .x + r .w) (2 ^ 64)) (leb (r .x + r .w) (d .x)) (b .0) .0),
+      ltb-true _ _ (both-hold (ltb (r .y + r .h) (2 ^ 64)) (leb (r .y + r .h) (d .y)) (b .1) .0),
+    )
+
 -- ---- pages
 
 -- a page that the table has
@@ -401,6 +372,18 @@ module _ (d : Description) (words scene t c z : ℕ) where
       → accepted (firstStrip d page c) ≡ channelStrips d words scene t c z
   unfolding channelStrips bind
   channel-at page e h = rw (e, channelStrips, bind) (rw (h, bind))
+
+  -- the strips that are there are those of the channel of a page
+  pub channel-page : {C : Type 0} (first : ℕ) → channelStrips d words scene t c z ≡ accepted first
+      → ((page : ℕ) → pageOf (d .layout) scene z ≡ some page → firstStrip d page c ≡ first → C) → C
+  unfolding channelStrips
+  channel-page first e go =
+      bind-then (given (outOfRange scene t c z) (pageOf (d .layout) scene z)) _ first e
+      (λ page e₁ e₂.
+      bind-then (need (outOfRange scene t c z) (hasPage d words page)) _ first e₂
+      (λ u e₃ e₄.
+      let q : firstStrip d page c ≡ first = cc in
+      go page (given-some _ (pageOf (d .layout) scene z) page e₁) q))
 
   pub channel-room : (first : ℕ) → channelStrips d words scene t c z ≡ accepted first → c < d .dims .c → 2 * (first + d .stripsPerChannel) ≤ words
   unfolding channelStrips

@@ -168,16 +168,19 @@ wholeRows d table =
 
 -- ---- region
 
--- "the rectangle's size, the page, and all the channel's strips within the file". A page past scenes × depth, which only a handed-in
--- description can ask for, isn't among those of the test; where its channel's strips don't hold whole rows, all of plane's checks decide.
-abbrev pub windowBy : Bool → Description → List ℕ → ℕ → ℕ → ℕ → ℕ → ℕ → ℕ → Result ℕ
-windowBy true d table len scene t c z first = bind (need decode (inside table len first (d .stripsPerChannel))) (λ _. accepted first)
-windowBy false d table len scene t c z first = planeStrips d table len scene t c z
+-- Where the last sample of a rectangle ends in the joined strips: that of row y + h - 1, column x + w - 1.
+abbrev pub windowEnd : Description → Rect → ℕ
+windowEnd d r = (r .y + r .h - 1) * rowBytes d + (r .x + r .w) * sampleSize (d .kind)
 
+-- "the rectangle's size, the page, and all the channel's strips within the file". The last line always holds for the pages of the test,
+-- whose strips hold all rows of the picture. Past them, where only a handed-in description leads, a sample may be missing: "an outcome that
+-- they leave free", and it is 2.
 unfoldable pub windowStrips : Description → List ℕ → ℕ → ℕ → ℕ → ℕ → ℕ → Rect → Result ℕ
 windowStrips d table len scene t c z r =
     bind (pictureSize (r .w) (r .h) (d .kind)) (λ _.
-    bind (channelStrips d (length table) scene t c z) (λ first. windowBy (wholeChannel d table first) d table len scene t c z first))
+    bind (channelStrips d (length table) scene t c z) (λ first.
+    bind (need decode (inside table len first (d .stripsPerChannel))) (λ _.
+    bind (need decode (leb (windowEnd d r) (total table first (d .stripsPerChannel)))) (λ _. accepted first))))
 
 -- "then, where every page's strips hold whole rows, [..]; otherwise all of plane's checks"
 abbrev pub regionBy : Bool → Description → List ℕ → ℕ → ℕ → ℕ → ℕ → ℕ → Rect → Result ℕ

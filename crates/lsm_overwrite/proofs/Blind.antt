@@ -1,16 +1,12 @@
 -- Demand 3: the two forms of the statement in specs/Blind.antt, proved for all files. Assumes nothing.
 use Prim.Native.Nat.{ℕ, _≤_}
-use native.Mathlib.Omega.{arith}
 use mathlib.Core.Path.{_≡_, refl, sym, ap, _∙_}
 use mathlib.Core.List.{List, [], _++_}
-use lib.Dec.{leb}
 use lib.ListN.{length, set, drop, length-set}
 use lib.Seq.{getD-set-other}
-use borrow.Author.Tests.{leb-true}
 use Rattle.lsm_format.specs.Answer.{Result, accepted}
-use Rattle.lsm_format.specs.Ranges.{Ranges, flat, Inside, On, Agree}
+use Rattle.lsm_format.specs.Ranges.{Ranges, flat, Inside, Agree}
 use Rattle.lsm_format.specs.Rectangle.{Rect}
-use Rattle.lsm_format.specs.Lent.{lend}
 use Rattle.lsm_format.specs.Open.{Opened, read, openFile, openMemory, tableBy, openRanges}
 use Rattle.lsm_format.specs.Picture.{Samples, plane, region, into, bufferBy}
 use Rattle.lsm_format.specs.Listed.{stripsRanges, channelBlockRanges, regionRanges, listed, listedFor}
@@ -18,7 +14,7 @@ use Rattle.lsm_format.proofs.Lent.{lend-fits, filled-room}
 use Rattle.lsm_format.proofs.Accepting.{Accepting, accepting-bind, accepting-self, accepting-told}
 use Rattle.lsm_format.proofs.Opened.{Fits, read-fits}
 use Rattle.lsm_overwrite.specs.Blind.{Overwritten, Held, planeOf, regionOf, lookupOf, lookupLeft, OpensAlike, RegionAlike, SpareBytes, SpareSamples}
-use Rattle.lsm_overwrite.proofs.TwoFiles.{agree, agree-self, over-given, in-file-at, on-part}
+use Rattle.lsm_overwrite.proofs.TwoFiles.{agree, agree-self, over-given}
 use Rattle.lsm_overwrite.proofs.Open.{read-law, open-law, open-memory-law}
 use Rattle.lsm_overwrite.proofs.Channels.{lookup-listed, memory-listed}
 use Rattle.lsm_overwrite.proofs.Picture.{plane-law, region-law, region-all}
@@ -39,18 +35,13 @@ held-room f h = accepting-told _ _ _ (open-read f (length (h .lent))) (h .gave) 
 -- ---- each later call with what is held of a file answers as with the table alone, also on another file that agrees with it
 
 module _ (f g : List ℕ) (len : length g ≡ length f) (opens : Agree f g (openRanges f)) (x : Opened) (is : read f ≡ accepted x) where
-  there : (8 ≤ length f) × Fits (x .description) (x .table)
+  there : Fits (x .description) (x .table)
   there = accepting-told _ _ _ (read-fits f) is
-
-  -- the header's first byte
-  start : On f g 0 1
-  unfolding openRanges
-  start = on-part f g 0 8 0 1 (rw (in-file-at f 0 8 (there .0)) at (opens .0)) (omega arith)
 
   -- a rectangle's list is part of the whole one
   region-listed : Agree f g (stripsRanges f (x .table)) → (scene t c z : ℕ) (r : Rect) →
       Agree f g (regionRanges (x .description) (x .table) f scene t c z r)
-  region-listed strips scene t c z r = region-all f g len (x .description) (x .table) [] (there .1) scene t c z strips start r
+  region-listed strips scene t c z r = region-all f g len (x .description) (x .table) [] there scene t c z strips r
 
   module _ (h : Held g) where
     -- the files open alike, so the description is the same, and the table with some rest after it
@@ -69,11 +60,11 @@ module _ (f g : List ℕ) (len : length g ≡ length f) (opens : Agree f g (open
     plane-held : Agree f g (stripsRanges f (x .table)) → (scene t c z : ℕ) →
         planeOf g h scene t c z ≡ plane (x .description) (x .table) f scene t c z
     plane-held strips scene t c z =
-        rw (same-table, same) (plane-law f g len (x .description) (x .table) _ (there .1) scene t c z strips start)
+        rw (same-table, same) (plane-law f g len (x .description) (x .table) _ there scene t c z strips)
 
     region-held : (scene t c z : ℕ) (r : Rect) → Agree f g (regionRanges (x .description) (x .table) f scene t c z r) →
         regionOf g h scene t c z r ≡ region (x .description) (x .table) f scene t c z r
-    region-held scene t c z r w = rw (same-table, same) (region-law f g len (x .description) (x .table) _ (there .1) scene t c z r w)
+    region-held scene t c z r w = rw (same-table, same) (region-law f g len (x .description) (x .table) _ there scene t c z r w)
 
 -- ---- the two forms
 

@@ -6,3 +6,4 @@ pub mod Open
 pub mod Table
 pub mod Picture
 pub mod Blind
+pub mod Exact

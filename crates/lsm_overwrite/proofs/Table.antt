@@ -7,17 +7,18 @@ use mathlib.Core.Bool.{Bool, true, false, not, _&&_}
 use mathlib.Core.Option.{some}
 use mathlib.Core.Path.{_≡_, refl, sym, ap, ap₂, _∙_}
 use mathlib.Core.List.{List, _++_}
-use lib.Dec.{ltb, eqb}
+use lib.Dec.{leb, ltb, eqb}
 use lib.ListN.{length, length-append, List·getD-append}
 use borrow.Author.Tests.{le-leb, ltb-true}
-use Rattle.lsm_format.specs.Answer.{need, decode, outOfRange}
+use Rattle.lsm_format.specs.Answer.{accepted, need, decode, outOfRange}
 use Rattle.lsm_format.specs.Rectangle.{Rect, coordinates}
 use Rattle.lsm_format.specs.Scenes.{pageOf}
 use Rattle.lsm_format.specs.Open.{Description}
-use Rattle.lsm_format.specs.Picture.{offsetOf, countOf, total, place, inside, stripsPerPage, hasPage, firstStrip, channelStrips, coordinate, planeStrips, rowBytes, wholeStrips, rowsIn, wholeChannel, wholeChannels, wholePages, wholeRows, windowBy, windowStrips, regionBy, regionStrips}
+use Rattle.lsm_format.specs.Picture.{offsetOf, countOf, total, place, inside, stripsPerPage, hasPage, firstStrip, channelStrips, coordinate, planeStrips, wholePicture, rowBytes, wholeStrips, rowsIn, wholeChannel, wholeChannels, wholePages, wholeRows, windowEnd, windowStrips, regionBy, regionStrips}
 use Rattle.lsm_format.proofs.Scenes.{page-some}
-use Rattle.lsm_format.proofs.Accepting.{Accepting, accepting-bind, accepting-then, accepting-need, accepting-given, accepting-map, both-hold}
+use Rattle.lsm_format.proofs.Accepting.{Accepting, accepting-bind, accepting-then, accepting-need, accepting-given, accepting-map, accepting-told, both-hold}
 use Rattle.lsm_format.proofs.Opened.{Fits}
+use Rattle.lsm_format.proofs.Region.{accepted-by-plane, region-accepted}
 use Rattle.lsm_overwrite.proofs.TwoFiles.{bind-law, bind-accepting}
 
 -- ---- a byte in the first of some strips, and one in those after it
@@ -154,49 +155,38 @@ module _ (d : Description) (table rest : List ℕ) (fits : Fits d table) where
         bind-law _ (ap (need decode) (inside-own table rest len (d .stripsPerChannel) first h)) (λ _.
         bind-law _ (ap (λ (n : ℕ). need decode (eqb n size)) (total-own table rest (d .stripsPerChannel) first h)) (λ _. refl))))
 
-    window-by-own : (b : Bool) (first : ℕ) → Has table rest first (d .stripsPerChannel) →
-        windowBy b d (table ++ rest) len scene t c z first ≡ windowBy b d table len scene t c z first
-    window-by-own true first h = bind-law _ (ap (need decode) (inside-own table rest len (d .stripsPerChannel) first h)) (λ _. refl)
-    window-by-own false first h = plane-own
-
     region-by-own : (b : Bool) (r : Rect) → regionBy b d (table ++ rest) len scene t c z r ≡ regionBy b d table len scene t c z r
     unfolding windowStrips
     region-by-own true r =
         bind-law _ refl (λ _.
-        bind-accepting _ _ first-own first-has (λ first h. rw (channel-own first h) (window-by-own (wholeChannel d table first) first h)))
+        bind-accepting _ _ first-own first-has (λ first h.
+        bind-law _ (ap (need decode) (inside-own table rest len (d .stripsPerChannel) first h)) (λ _.
+        bind-law _ (ap (λ (n : ℕ). need decode (leb (windowEnd d r) n)) (total-own table rest (d .stripsPerChannel) first h)) (λ _. refl))))
     region-by-own false r = plane-own
 
     pub region-own : (r : Rect) → regionStrips d (table ++ rest) len scene t c z r ≡ regionStrips d table len scene t c z r
     unfolding regionStrips
     region-own r = rw rows-alike (region-by-own (wholeRows d table) r)
 
-    -- the strips that are accepted are in the table and in the file
-    abbrev pub Within : ℕ → Type 0
-    Within first = Has table rest first (d .stripsPerChannel) × (inside table len first (d .stripsPerChannel) ≡ true)
+    -- the strips that are accepted for a rectangle are in the table and in the file, and hold its samples
+    pub record Within (r : Rect) (first : ℕ) : Type 0 where
+      pub has : Has table rest first (d .stripsPerChannel)
+      pub inFile : inside table len first (d .stripsPerChannel) ≡ true
+      pub reach : windowEnd d r ≤ total table first (d .stripsPerChannel)
 
-    pub plane-within : Accepting Within (planeStrips d table len scene t c z)
-    unfolding planeStrips Accepting
-    plane-within =
-        accepting-then _ _ _ (λ size.
-        accepting-bind _ _ _ _ first-has (λ first h.
-        accepting-bind _ _ _ _ (accepting-need decode (inside table len first (d .stripsPerChannel))) (λ _ i.
-        accepting-then _ _ _ (λ _. (h, i)))))
+    pub first-told : (first : ℕ) → channelStrips d (length table) scene t c z ≡ accepted first → Has table rest first (d .stripsPerChannel)
+    first-told first e = accepting-told _ _ first first-has e
 
-    window-within : (b : Bool) (first : ℕ) → Has table rest first (d .stripsPerChannel) → Accepting Within (windowBy b d table len scene t c z first)
-    unfolding Accepting
-    window-within true first h =
-        accepting-bind _ _ _ _ (accepting-need decode (inside table len first (d .stripsPerChannel))) (λ _ i. (h, i))
-    window-within false first h = plane-within
+    pub plane-within : (first : ℕ) → planeStrips d table len scene t c z ≡ accepted first → 0 < d .dims .y → Within (wholePicture d) first
+    plane-within first e h =
+        let a = accepted-by-plane d table len scene t c z (wholePicture d) (omega arith) (omega arith) h first e in
+        record { has = first-told first (a .channel); inFile = a .within; reach = a .reach }
 
-    region-by-within : (b : Bool) (r : Rect) → Accepting Within (regionBy b d table len scene t c z r)
-    unfolding windowStrips
-    region-by-within true r =
-        accepting-then _ _ _ (λ _. accepting-bind _ _ _ _ first-has (λ first h. window-within (wholeChannel d table first) first h))
-    region-by-within false r = plane-within
-
-    pub region-within : (r : Rect) → Accepting Within (regionStrips d table len scene t c z r)
-    unfolding regionStrips
-    region-within r = region-by-within (wholeRows d table) r
+    pub region-within : (r : Rect) (first : ℕ) → r .x + r .w ≤ d .dims .x → r .y + r .h ≤ d .dims .y → 0 < r .h
+        → regionStrips d table len scene t c z r ≡ accepted first → Within r first
+    region-within r first w h rows e =
+        let a = region-accepted d table len scene t c z r w h rows first e in
+        record { has = first-told first (a .channel); inFile = a .within; reach = a .reach }
 
 -- "t, c, z": a coordinate that is accepted is there
 pub coordinate-there : (d : Description) (scene t c z : ℕ) → Accepting (λ (u : Unit {0}). (c < d .dims .c) × (z < d .dims .z)) (coordinate d scene t c z)

@@ -8,44 +8,26 @@ use mathlib.Core.Bool.{Bool, true, false}
 use mathlib.Core.List.{List, [], _++_, reverse}
 use mathlib.Core.Option.{Option, none, some}
 use lib.ListN.{length, drop}
-use Rattle.lsm_format.specs.Answer.{Result, accepted, refused, bind, need, decode, tooShort}
+use Rattle.lsm_format.specs.Answer.{Result, accepted, refused, bind, tooShort}
 use Rattle.lsm_format.specs.Numbers.{Order, little, big}
 use Rattle.lsm_format.specs.Open.{Description}
 use Rattle.lsm_format.specs.Rectangle.{Rect, rectangle, isEmpty}
-use Rattle.lsm_format.specs.Sizes.{Kind, u8, u16, i16, f32, sampleSize, pictureLimit, pictureBytes, pictureSize}
-use Rattle.lsm_format.specs.Picture.{Samples, stored, inside, span, bytes, picture, each, toLittle, window, channelPicture, samplesIn, rowBytes, into, coordinate, planeStrips, wholePicture, plane, channelStrips, wholeChannel, wholeRows, windowBy, windowStrips, regionBy, regionStrips, filledRegion, region}
+use Rattle.lsm_format.specs.Sizes.{Kind, u8, u16, i16, f32, sampleSize, pictureBytes}
+use Rattle.lsm_format.specs.Picture.{Samples, stored, span, bytes, picture, each, toLittle, window, channelPicture, samplesIn, rowBytes, into, coordinate, planeStrips, wholePicture, plane, regionStrips, filledRegion, region}
 use Rattle.lsm_format.proofs.Lent.{lend-room, lend-short, filled-room, filled-short}
-use Rattle.lsm_format.proofs.Picture.{held, picture-length, window-rows, window-length, window-cong, window-each, PlaneAccepted, plane-accepted, coordinate-channel, rectangle-within, channel-room, bind-then, need-true, size-is, strips-oversized}
-use Rattle.lsm_format.proofs.Region.{size-rows, size-part, whole-bytes, region-plane, channel-even, no-bytes}
+use Rattle.lsm_format.proofs.Picture.{held, picture-length, window-rows, window-cong, window-each, plane-accepted, coordinate-channel, rectangle-within, channel-room, bind-then}
+use Rattle.lsm_format.proofs.Region.{size-rows, end-inside, region-accepted, not-empty, samples-length, no-bytes}
 use Rattle.lsm_region.specs.Code.{Pictured}
 use Rattle.lsm_region.specs.Ready.{Ready}
 use Rattle.lsm_region.specs.Cursor.{RowsIn, SampleSize}
 use Rattle.lsm_region.proofs.Filling.{flip-one}
 use Rattle.lsm_strips.specs.Parts.{planeFirst, filledFirst, regionFirst}
-use Rattle.lsm_strips.proofs.Judging.{whole-row}
 
 pub sample-size : (k : Kind) → SampleSize (sampleSize k)
 sample-size u8 = inl refl
 sample-size u16 = inr (inl refl)
 sample-size i16 = inr (inl refl)
 sample-size f32 = inr (inr refl)
-
--- a rectangle of an accepted picture
-pub ready-plane : {d : Description} {t : List ℕ} {len scene time c z first : ℕ} (r : Rect) → PlaneAccepted d t len scene time c z first → c < d .dims .c
-    → r .x + r .w ≤ d .dims .x → r .y + r .h ≤ d .dims .y → Ready d t len first r
-ready-plane {d} {t} {len} {scene} {time} {c} {z} {first} r p h a b =
-    let x : ℕ = d .dims .x in
-    let y : ℕ = d .dims .y in
-    let s : ℕ = sampleSize (d .kind) in
-    let rows : x * y * s ≡ y * (x * s) = size-rows x y s in
-    record {
-      words = channel-room d (length t) scene time c z first (p .channel) h;
-      across = a;
-      size = omega (arith, size-part (r .w) (r .h) x y (d .kind) (omega arith) (omega arith), p .small);
-      line = λ l. (let o : 1 ≤ y = omega arith in omega (arith, mul-le-mul-right (x * s) o, p .small));
-      held = omega (arith, mul-le-mul-right (x * s) b, p .summed);
-      within = p .within;
-    }
 
 -- ---- copying
 
@@ -86,7 +68,7 @@ ready-rows {d} {t} {len} {first} {r} y w =
       among = omega arith;
       some = w .part;
       across = w .start;
-      held = rw q (y .held);
+      held = rw (q, ← add-mul) (y .held (w .high));
       within = rw q (y .within);
     }
 
@@ -150,11 +132,6 @@ pictured-read a lent size e h =
       memory = rw (← e) (sym (filled-room (a .bytes) lent u));
     }
 
-samples-length : (d : Description) (t f : List ℕ) (first : ℕ) (r : Rect) → length (samplesIn d t f r first .bytes) ≡ pictureBytes (r .w) (r .h) (d .kind)
-unfolding samplesIn
-samples-length d t f first r =
-    window-length (channelPicture d t f first) (sampleSize (d .kind)) r (channel-even d t f first r) ∙ sym (size-rows (r .w) (r .h) (sampleSize (d .kind)))
-
 -- the samples of a rectangle: no room; room; none
 module _ (d : Description) (t f : List ℕ) (first : ℕ) (r : Rect) (lent : List ℕ) (size : ℕ) (e : size ≡ pictureBytes (r .w) (r .h) (d .kind)) where
   pub given-short : size < 2 ^ 64 → length lent < size → Pictured (accepted (samplesIn d t f r first)) lent lent (refused (tooShort size))
@@ -205,59 +182,18 @@ unfolding planeFirst
 ready-whole d t len scene time c z first e =
     bind-then (coordinate d scene time c z) _ first e
     (λ u e₁ e₂.
-    ready-plane (wholePicture d) (plane-accepted d t len scene time c z first e₂) (coordinate-channel d scene time c z u e₁) (omega arith) (omega arith))
+    let p = plane-accepted d t len scene time c z first e₂ in
+    let made : pictureBytes (d .dims .x) (d .dims .y) (d .kind) ≡ d .dims .y * rowBytes d = size-rows (d .dims .x) (d .dims .y) (sampleSize (d .kind)) in
+    record {
+      words = channel-room d (length t) scene time c z first (p .channel) (coordinate-channel d scene time c z u e₁);
+      across = omega arith;
+      size = omega (arith, p .small);
+      line = λ l. omega (arith, mul-le-mul-right (rowBytes d) l, p .small);
+      held = λ l. omega (arith, end-inside d (wholePicture d) (omega arith) (omega arith) l, p .summed);
+      within = p .within;
+    })
 
 -- ---- region
-
--- a rectangle of an oversized picture
-module _ (d : Description) (t : List ℕ) (len scene time c z first : ℕ) (r : Rect) (h : c < d .dims .c) (a : r .x + r .w ≤ d .dims .x) (b : r .y + r .h ≤ d .dims .y) where
-  ready-rows-of : wholeRows d t ≡ true → pictureBytes (r .w) (r .h) (d .kind) ≤ pictureLimit → channelStrips d (length t) scene time c z ≡ accepted first
-      → wholeChannel d t first ≡ true → inside t len first (d .stripsPerChannel) ≡ true → Ready d t len first r
-  ready-rows-of w small e k i = record {
-    words = channel-room d (length t) scene time c z first e h;
-    across = a;
-    size = omega arith;
-    line = λ l. whole-row d t w .1;
-    held = omega (arith, mul-le-mul-right (rowBytes d) b, whole-bytes d t first k);
-    within = i;
-  }
-
-  ready-by : (row : List ℕ) → pictureSize (d .dims .x) (d .dims .y) (d .kind) ≡ refused row → wholeRows d t ≡ true → pictureBytes (r .w) (r .h) (d .kind) ≤ pictureLimit
-      → (p : ℕ) → channelStrips d (length t) scene time c z ≡ accepted p → (k : Bool) → wholeChannel d t p ≡ k → windowBy k d t len scene time c z p ≡ accepted first
-      → Ready d t len first r
-  ready-by row o w small p e true k m =
-      bind-then (need decode (inside t len p (d .stripsPerChannel))) _ first m
-      (λ u e₁ e₂.
-      let q : p ≡ first = cc in
-      ready-rows-of w small (rw q at e) (rw q at k) (rw q at (need-true _ (inside t len p (d .stripsPerChannel)) u e₁)))
-  ready-by row o w small p e false k m =
-      let f : refused row ≡ planeStrips d t len scene time c z = strips-oversized d t len scene time c z row o in
-      let z : _≡_ {A = ℕ} 0 1 = cc in
-      absurd (omega arith)
-
-  ready-window : (row : List ℕ) → pictureSize (d .dims .x) (d .dims .y) (d .kind) ≡ refused row → (k : Bool) → wholeRows d t ≡ k
-      → regionBy k d t len scene time c z r ≡ accepted first → Ready d t len first r
-  unfolding windowStrips
-  ready-window row o true w m =
-      bind-then (pictureSize (r .w) (r .h) (d .kind)) _ first m
-      (λ n e₁ e₂.
-      bind-then (channelStrips d (length t) scene time c z) _ first e₂
-      (λ p e₃ e₄.
-      let s = size-is (r .w) (r .h) (d .kind) n e₁ in
-      ready-by row o w (rw (sym (s .0)) (s .1)) p e₃ (wholeChannel d t p) refl e₄))
-  ready-window row o false w m =
-      let f : refused row ≡ planeStrips d t len scene time c z = strips-oversized d t len scene time c z row o in
-      let z : _≡_ {A = ℕ} 0 1 = cc in
-      absurd (omega arith)
-
-  ready-size : (s : Result ℕ) → pictureSize (d .dims .x) (d .dims .y) (d .kind) ≡ s → regionStrips d t len scene time c z r ≡ accepted first → Ready d t len first r
-  unfolding regionStrips
-  ready-size (accepted n) e m =
-      ready-plane r (plane-accepted d t len scene time c z first (sym (region-plane d t len scene time c z r n e (omega arith) (omega arith)) ∙ m)) h a b
-  ready-size (refused row) e m = ready-window row e (wholeRows d t) refl m
-
-  ready-strips : regionStrips d t len scene time c z r ≡ accepted first → Ready d t len first r
-  ready-strips m = ready-size (pictureSize (d .dims .x) (d .dims .y) (d .kind)) refl m
 
 -- what region's checks accept can be copied
 pub ready-part : (d : Description) (t : List ℕ) (len scene time c z first : ℕ) (r : Rect) → regionFirst d t len scene time c z r ≡ accepted (some first)
@@ -269,14 +205,24 @@ ready-part d t len scene time c z first r e =
     bind-then (rectangle (d .dims) r) _ (some first) e₂
     (λ v e₃ e₄.
     let w = rectangle-within (d .dims) r v e₃ in
-    by (coordinate-channel d scene time c z u e₁) (w .0) (w .1) (isEmpty r) e₄))
+    by (coordinate-channel d scene time c z u e₁) (w .0) (w .1) (isEmpty r) refl e₄))
   where
-    by : c < d .dims .c → r .x + r .w ≤ d .dims .x → r .y + r .h ≤ d .dims .y → (k : Bool)
+    by : c < d .dims .c → r .x + r .w ≤ d .dims .x → r .y + r .h ≤ d .dims .y → (k : Bool) → isEmpty r ≡ k
         → filledFirst k d t len scene time c z r ≡ accepted (some first) → Ready d t len first r
-    by h a b true m = let z : _≡_ {A = ℕ} 0 1 = cc in absurd (omega arith)
-    by h a b false m =
+    by h a b true i m = let z : _≡_ {A = ℕ} 0 1 = cc in absurd (omega arith)
+    by h a b false i m =
         bind-then (regionStrips d t len scene time c z r) _ (some first) m
-        (λ p e₁ e₂. let q : p ≡ first = cc in ready-strips d t len scene time c z first r h a b (e₁ ∙ ap accepted q))
+        (λ p e₁ e₂.
+        let q : p ≡ first = cc in
+        let y = region-accepted d t len scene time c z r a b (not-empty r i .1) first (e₁ ∙ ap accepted q) in
+        record {
+          words = channel-room d (length t) scene time c z first (y .channel) h;
+          across = a;
+          size = omega (arith, y .small);
+          line = λ l. y .row;
+          held = λ l. y .reach;
+          within = y .within;
+        })
 
 -- an empty rectangle's samples, or those of a rectangle whose picture's first strip is told
 abbrev partSamples : Description → List ℕ → List ℕ → Rect → Option ℕ → Samples

@@ -1,6 +1,6 @@
 -- Laws of the walk over the strips. Assumes nothing.
-use Prim.Native.Nat.{ℕ, zero, suc, _+_, _-_, _*_, _/_, _%_, _<_, _≤_}
-use native.Mathlib.Nat.{add-zero, zero-add, add-assoc, sub-zero, add-mul, suc-mul, mul-le-mul-right, add-sub-cancel-left, lt-of-not-le, not-suc-le-zero, le-div-iff-mul-le, div-add-mod', mod-lt, one-mul, zero-mul}
+use Prim.Native.Nat.{ℕ, zero, suc, _+_, _-_, _*_, _<_, _≤_}
+use native.Mathlib.Nat.{add-zero, zero-add, add-assoc, sub-zero, add-mul, suc-mul, mul-le-mul-right, add-sub-cancel-left, lt-of-not-le, not-suc-le-zero, one-mul, zero-mul}
 use native.Mathlib.Omega.{arith}
 use mathlib.Core.Path.{_≡_, refl, sym, ap, _∙_}
 use mathlib.Core.Bool.{true}
@@ -109,7 +109,7 @@ run-done f k out a n l u e so-far =
     let q : a ≡ n = omega arith in
     sym (take-all a out u) ∙ so-far ∙ ap (bytes f k) q
 
--- ---- so many rows on
+-- ---- so many rows on (what is left after a strip: lsm_strips, Judging)
 
 pub ahead-here : (into ahead row : ℕ) → ahead * row + into ≡ 0 * row + (into + ahead * row)
 ahead-here into ahead row = rw zero-mul (omega arith)
@@ -118,29 +118,13 @@ pub ahead-none : (into ahead row : ℕ) → ahead ≤ 0 → ahead * row + into �
 ahead-none into zero row h = rw zero-mul (omega arith)
 ahead-none into (suc ahead) row h = absurd (not-suc-le-zero h)
 
-module _ (count into ahead row : ℕ) where
-  pub ahead-past : count ≤ into → ahead * row + into ≡ count + (ahead * row + (into - count))
-  ahead-past h = omega arith
-
-  pub ahead-fits : 0 < row → ahead ≤ (count - into) / row → ahead * row ≤ count - into
-  ahead-fits p h = le-div-iff-mul-le {k = row} {x = ahead} {y = count - into} p .0 h
-
-  pub ahead-over : 0 < row → into < count → (count - into) / row < ahead
-      → ahead * row + into ≡ count + ((ahead - ((count - into) / row + 1)) * row + (row - (count - into) % row))
-  ahead-over p l h =
-      let here : ℕ = (count - into) / row in
-      let left : ℕ = ahead - (here + 1) in
-      let q : ahead ≡ here + (1 + left) = omega arith in
-      let w : ahead * row ≡ here * row + (row + left * row) = ap (λ (k : ℕ). k * row) q ∙ rw (add-mul, add-mul, one-mul) in
-      omega (arith, div-add-mod' (count - into) row, mod-lt (count - into) p, w)
-
 -- ---- the rows of a rectangle
 
 pub row-in : {t : List ℕ} {len first e row y h start part : ℕ} (i : ℕ) → RowsIn t len first e row y h start part → i < h
     → (y + i) * row + start + part ≤ total t first (e - first)
 row-in {t} {len} {first} {e} {row} {y} {h} {start} {part} i r l =
-    let u : suc (y + i) ≤ y + h = omega arith in
-    omega (arith, suc-mul (y + i) row, mul-le-mul-right row u, r .across, r .held)
+    let u : y + i ≤ y + h - 1 = omega arith in
+    omega (arith, mul-le-mul-right row u, r .held)
 
 pub row-next : (y i row start : ℕ) → (y + i) * row + start + row ≡ (y + (i + 1)) * row + start
 row-next y i row start =
@@ -165,8 +149,10 @@ rows-run f row y h start part l u =
     ∙ tile f 0 y h row ∙ ap (λ (k : ℕ). bytes f k (h * row)) (ap (λ (k : ℕ). k * row) (zero-add y) ∙ sym (add-zero (y * row)))))
 
 -- and are all there
-pub rows-held : {t : List ℕ} {len first e row y h start part : ℕ} → RowsIn t len first e row y h start part → row ≤ part
+pub rows-held : {t : List ℕ} {len first e row y h start part : ℕ} → RowsIn t len first e row y h start part → row ≤ part → 0 < h
     → y * row + 0 + h * part ≤ total t first (e - first)
-rows-held {t} {len} {first} {e} {row} {y} {h} {start} {part} r u =
+rows-held {t} {len} {first} {e} {row} {y} {h} {start} {part} r u l =
     let b : part ≡ row = omega (arith, r .across) in
-    rw b (omega (arith, add-mul y h row, r .held))
+    let q : y + h ≡ suc (y + h - 1) = omega arith in
+    let v : (y + h) * row ≡ (y + h - 1) * row + row = ap (λ (k : ℕ). k * row) q ∙ suc-mul (y + h - 1) row in
+    rw b (omega (arith, add-mul y h row, v, r .held))

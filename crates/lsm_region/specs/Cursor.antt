@@ -14,13 +14,13 @@ pub record Stands (t : List ℕ) (e p k i d : ℕ) : Type 0 where
   pub moved : (m : ℕ) → place t p (e - p) (k + m) ≡ place t i (e - i) (d + m)
   pub whole : total t i (e - i) + k ≡ total t p (e - p) + d
 
--- The rows y, .., y + h - 1 of `row` bytes are in the strips from `first` on, and `part` bytes from `start` on are in a row.
+-- `part` bytes from `start` on are in a row of `row` bytes, and those of the rows y, .., y + h - 1 are in the strips from `first` on.
 pub record RowsIn (t : List ℕ) (len first e row y h start part : ℕ) : Type 0 where
   pub words : 2 * e ≤ length t
   pub among : first ≤ e
   pub some : 0 < part
   pub across : start + part ≤ row
-  pub held : (y + h) * row ≤ total t first (e - first)
+  pub held : (y + h - 1) * row + (start + part) ≤ total t first (e - first)
   pub within : inside t len first (e - first) ≡ true
 
 -- How many bytes a sample can have.

@@ -7,7 +7,7 @@ use lib.ListN.{length}
 use Rattle.lsm_format.specs.Open.{Description}
 use Rattle.lsm_format.specs.Rectangle.{Rect}
 use Rattle.lsm_format.specs.Sizes.{pictureBytes}
-use Rattle.lsm_format.specs.Picture.{total, inside, rowBytes}
+use Rattle.lsm_format.specs.Picture.{total, inside, rowBytes, windowEnd}
 
 -- All that copying a rectangle asks for. A row's bytes fit the machine; a place in the joined strips need not.
 pub record Ready (d : Description) (t : List ℕ) (len first : ℕ) (r : Rect) : Type 0 where
@@ -15,5 +15,5 @@ pub record Ready (d : Description) (t : List ℕ) (len first : ℕ) (r : Rect) :
   pub across : r .x + r .w ≤ d .dims .x
   pub size : pictureBytes (r .w) (r .h) (d .kind) < 2 ^ 64
   pub line : 0 < r .h → rowBytes d < 2 ^ 64
-  pub held : (r .y + r .h) * rowBytes d ≤ total t first (d .stripsPerChannel)
+  pub held : 0 < r .h → windowEnd d r ≤ total t first (d .stripsPerChannel)
   pub within : inside t len first (d .stripsPerChannel) ≡ true

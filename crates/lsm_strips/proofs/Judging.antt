@@ -1,25 +1,26 @@
 -- Laws of what is asked of a channel's strips, a case each. Assumes nothing.
 use Prim.Native.Nat.{ℕ, zero, suc, _+_, _-_, _*_, _/_, _%_, _^_, _<_, _≤_}
-use native.Mathlib.Nat.{not-suc-le-zero, suc-mul, mul-le-mul-right, le-div-iff-mul-le, div-lt-iff-lt-mul}
+use native.Mathlib.Nat.{not-suc-le-zero, suc-mul, add-mul, one-mul, zero-mul, mul-le-mul, mul-le-mul-right, le-div-iff-mul-le, div-lt-iff-lt-mul, div-add-mod', mod-lt}
 use native.Mathlib.Numerals.{add-one}
 use native.Mathlib.Omega.{arith}
 use mathlib.Core.Path.{_≡_, refl, sym, ap, ap₂, _∙_}
 use mathlib.Core.Bool.{Bool, true, false, not, _&&_, and-false}
-use mathlib.Core.Option.{none, some}
+use mathlib.Core.Option.{Option, none, some}
 use mathlib.Core.List.{List}
 use lib.Dec.{eqb, ltb, leb}
 use lib.ListN.{length}
-use borrow.Author.Tests.{eq-eqb, ne-eqb, eqb-true, eqb-false, ltb-true, ltb-false, lt-ltb, le-ltb, le-leb, lt-leb, leb-true, leb-false, not-true}
-use Rattle.lsm_format.specs.Answer.{accepted, refused, bind, need, decode, sceneOutOfRange}
+use borrow.Author.Tests.{eq-eqb, ne-eqb, eqb-true, eqb-false, ltb-true, ltb-false, lt-ltb, le-ltb, le-leb, lt-leb, leb-true, leb-false}
+use Rattle.lsm_format.specs.Answer.{accepted, refused, bind, need, given, decode, sceneOutOfRange}
 use Rattle.lsm_format.specs.Words.{word}
 use Rattle.lsm_format.specs.Sizes.{pictureSize}
+use Rattle.lsm_format.specs.Scenes.{pagesExpected, pageOf}
 use Rattle.lsm_format.specs.Open.{Description}
-use Rattle.lsm_format.specs.Picture.{offsetOf, countOf, total, inside, wholeStrips, rowsIn, stripsPerPage, hasPage, firstStrip, channelStrips, coordinate, planeStrips, rowBytes, wholeChannel, wholeChannels, wholePages, wholeRows, windowBy, windowStrips, regionStrips}
+use Rattle.lsm_format.specs.Picture.{offsetOf, countOf, total, inside, wholeStrips, rowsIn, stripsPerPage, hasPage, firstStrip, channelStrips, coordinate, planeStrips, rowBytes, wholeChannel, wholeChannels, wholePages, wholeRows, windowEnd, windowStrips, regionStrips}
 use Rattle.lsm_format.specs.Rectangle.{Rect, coordinates}
 use Rattle.lsm_format.proofs.Words.{word-some, word-none}
-use Rattle.lsm_format.proofs.Picture.{total-step, inside-none, inside-past, inside-next, page-there, page-missing, strips-oversized, strips-judged}
-use Rattle.lsm_strips.specs.Parts.{made, wholeRowsOf, pageIn, wholePage, rowStrips}
-use Rattle.lsm_format.proofs.Accepting.{both-hold}
+use Rattle.lsm_format.proofs.Picture.{total-step, inside-none, inside-past, inside-next, page-there, page-missing, strips-oversized, strips-judged, given-some}
+use Rattle.lsm_format.proofs.Region.{below}
+use Rattle.lsm_strips.specs.Parts.{made, wholeRowsOf, pageIn, pastTest, wholePage, rowStrips, sceneThere}
 
 -- ---- tests of equality
 
@@ -183,24 +184,25 @@ module _ (d : Description) (t : List ℕ) (len scene time c z size first : ℕ) 
 
 -- ---- the coordinate
 
-module _ (d : Description) (scene t c z : ℕ) where
-  pub scene-outside : d .layout .scenes ≤ scene → refused (sceneOutOfRange scene (d .layout .scenes)) ≡ coordinate d scene t c z
-  unfolding coordinate bind
+module _ (d : Description) (scene : ℕ) where
+  pub scene-outside : d .layout .scenes ≤ scene → refused (sceneOutOfRange scene (d .layout .scenes)) ≡ sceneThere d scene
+  unfolding sceneThere
   scene-outside h = rw (le-ltb scene (d .layout .scenes) h)
 
-  pub scene-inside : scene < d .layout .scenes → coordinates (d .dims) scene t c z ≡ coordinate d scene t c z
-  unfolding coordinate bind
+  pub scene-inside : scene < d .layout .scenes → accepted tt ≡ sceneThere d scene
+  unfolding sceneThere
   scene-inside h = rw (lt-ltb scene (d .layout .scenes) h)
 
--- ---- whole rows
+  module _ (t c z : ℕ) where
+    pub place-missing : (row : List ℕ) → sceneThere d scene ≡ refused row → refused row ≡ coordinate d scene t c z
+    unfolding coordinate sceneThere bind
+    place-missing row e = rw e
 
--- the last of the numbers below suc m, or one before it
-below : {C : Type 0} (k m : ℕ) → k < suc m → (k < m → C) → (k ≡ m → C) → C
-below {C} k m l before last = by (eqb k m) refl
-  where
-    by : (b : Bool) → eqb k m ≡ b → C
-    by true e = last (eqb-true k m e)
-    by false e = let n = eqb-false k m e in before (omega arith)
+    pub place-there : (u : Unit {0}) → sceneThere d scene ≡ accepted u → coordinates (d .dims) scene t c z ≡ coordinate d scene t c z
+    unfolding coordinate sceneThere bind
+    place-there u e = rw e
+
+-- ---- whole rows
 
 -- a test of all numbers below m
 module _ (all one : ℕ → Bool) (step : (m : ℕ) → all (suc m) ≡ (all m && one m)) where
@@ -292,61 +294,131 @@ page-lost d t page h w = sym (ap (λ (b : Bool). b && wholeChannels d t page (d 
 pub pages-all : (d : Description) (t : List ℕ) (n m : ℕ) → n ≤ m → m ≤ n → wholePages d t n ≡ true → true ≡ wholePages d t m
 pages-all d t n m l u h = let e : n ≡ m = omega arith in sym (rw e at h)
 
+-- ---- the page asked for
+
+module _ (d : Description) (scene z : ℕ) where
+  pub past-nowhere : pageOf (d .layout) scene z ≡ none → false ≡ pastTest d scene z
+  unfolding pastTest
+  past-nowhere e = rw e
+
+  module _ (page : ℕ) (e : pageOf (d .layout) scene z ≡ some page) where
+    pub past-by : (pages : ℕ) → pagesExpected (d .layout) ≡ accepted pages → leb pages page ≡ pastTest d scene z
+    unfolding pastTest pagesExpected
+    past-by pages w = rw e (ap (λ (k : ℕ). leb k page) (word-some _ _ (given-some decode (word (d .layout .scenes * d .layout .depth)) pages w) .0))
+
+    -- pages that overflow are more than any number
+    pub past-over : (row : List ℕ) → pagesExpected (d .layout) ≡ refused row → page < 2 ^ 64 → false ≡ pastTest d scene z
+    unfolding pastTest pagesExpected
+    past-over row w h = rw e (sym (lt-leb (d .layout .scenes * d .layout .depth) page (omega (arith, word-none _ (given-none decode (word (d .layout .scenes * d .layout .depth)) row w)))))
+      where
+        given-none : (r : List ℕ) (o : Option ℕ) (row : List ℕ) → given r o ≡ refused row → o ≡ none
+        given-none r none row e = refl
+        given-none r (some a) row e = let z : _≡_ {A = ℕ} 0 1 = cc in absurd (omega arith)
+
+  -- one that isn't past the test is one of its pages
+  pub past-not : pastTest d scene z ≡ false → (page : ℕ) → pageOf (d .layout) scene z ≡ some page → page < d .layout .scenes * d .layout .depth
+  unfolding pastTest
+  past-not h page e = leb-false (d .layout .scenes * d .layout .depth) page (rw e at h)
+
+-- ---- how far the strips reach
+
+-- so many rows of `row` bytes and `into` bytes more, from a strip of `count` bytes on: what is left after it
+module _ (count into ahead row : ℕ) where
+  pub ahead-past : count ≤ into → ahead * row + into ≡ count + (ahead * row + (into - count))
+  ahead-past h = omega arith
+
+  pub ahead-fits : 0 < row → ahead ≤ (count - into) / row → ahead * row ≤ count - into
+  ahead-fits p h = le-div-iff-mul-le {k = row} {x = ahead} {y = count - into} p .0 h
+
+  pub ahead-over : 0 < row → into < count → (count - into) / row < ahead
+      → ahead * row + into ≡ count + ((ahead - ((count - into) / row + 1)) * row + (row - (count - into) % row))
+  ahead-over p l h =
+      let here : ℕ = (count - into) / row in
+      let left : ℕ = ahead - (here + 1) in
+      let q : ahead ≡ here + (1 + left) = omega arith in
+      let w : ahead * row ≡ here * row + (row + left * row) = ap (λ (k : ℕ). k * row) q ∙ rw (add-mul, add-mul, one-mul) in
+      omega (arith, div-add-mod' (count - into) row, mod-lt (count - into) p, w)
+
+-- as many more on both sides
+more-alike : (n a b : ℕ) → leb (n + a) (n + b) ≡ leb a b
+more-alike n a b = by (leb a b) refl
+  where
+    by : (k : Bool) → leb a b ≡ k → leb (n + a) (n + b) ≡ k
+    by true e = le-leb (n + a) (n + b) (omega (arith, leb-true a b e))
+    by false e = lt-leb (n + a) (n + b) (omega (arith, leb-false a b e))
+
+module _ (t : List ℕ) (i n row ahead rest : ℕ) (any : 0 < n) where
+  next-reach : (k : ℕ) → ahead * row + rest ≡ countOf t i + k → leb (ahead * row + rest) (total t i n) ≡ leb k (total t (i + 1) (n - 1))
+  next-reach k e = rw (e, total-step t i n any) (more-alike (countOf t i) k (total t (i + 1) (n - 1)))
+
+  pub reach-past : countOf t i ≤ rest
+      → leb (ahead * row + rest) (total t i n) ≡ leb (ahead * row + (rest - countOf t i)) (total t (i + 1) (n - 1))
+  reach-past h = next-reach _ (ahead-past (countOf t i) rest ahead row h)
+
+  pub reach-here : 0 < row → rest < countOf t i → ahead ≤ (countOf t i - rest) / row → true ≡ leb (ahead * row + rest) (total t i n)
+  reach-here p l h =
+      sym (le-leb (ahead * row + rest) (total t i n) (omega (arith, ahead-fits (countOf t i) rest ahead row p h, total-step t i n any)))
+
+  pub reach-over : 0 < row → rest < countOf t i → (countOf t i - rest) / row < ahead → leb (ahead * row + rest) (total t i n)
+      ≡ leb ((ahead - ((countOf t i - rest) / row + 1)) * row + (row - (countOf t i - rest) % row)) (total t (i + 1) (n - 1))
+  reach-over p l h = next-reach _ (ahead-over (countOf t i) rest ahead row p l h)
+
+-- no strip is left
+pub reach-no-rows : (t : List ℕ) (i n row ahead rest : ℕ) → n ≤ 0 → 0 < row → 0 < ahead → false ≡ leb (ahead * row + rest) (total t i n)
+unfolding total
+reach-no-rows t i zero row ahead rest h p l = sym (lt-leb (ahead * row + rest) 0 (omega (arith, mul-le-mul l p)))
+reach-no-rows t i (suc n) row ahead rest h p l = absurd (not-suc-le-zero h)
+
+pub reach-end : (t : List ℕ) (i n row ahead rest : ℕ) → n ≤ 0 → ahead ≤ 0 → eqb rest 0 ≡ leb (ahead * row + rest) (total t i n)
+unfolding total
+reach-end t i zero row zero rest h l = rw zero-mul (by (eqb rest 0) refl)
+  where
+    by : (k : Bool) → eqb rest 0 ≡ k → k ≡ leb (0 + rest) 0
+    by true e = sym (le-leb (0 + rest) 0 (omega (arith, eqb-true rest 0 e)))
+    by false e = let n = eqb-false rest 0 e in sym (lt-leb (0 + rest) 0 (omega arith))
+reach-end t i zero row (suc ahead) rest h l = absurd (not-suc-le-zero l)
+reach-end t i (suc n) row ahead rest h l = absurd (not-suc-le-zero h)
+
 -- ---- region's strips
 
--- strips of whole rows where the picture is oversized: no such page; not whole rows; outside the file; there
-channel-whole : (d : Description) (t : List ℕ) (first row : ℕ) → row ≡ rowBytes d → wholeRowsOf row t first (d .stripsPerChannel) (d .dims .y) ≡ wholeChannel d t first
-unfolding wholeRowsOf wholeChannel
-channel-whole d t first row e = rw e
-
-module _ (d : Description) (t : List ℕ) (len scene time c z : ℕ) where
-  pub rows-nowhere : (row : List ℕ) → channelStrips d (length t) scene time c z ≡ refused row → refused row ≡ rowStrips d t len scene time c z
+module _ (d : Description) (t : List ℕ) (len scene time c z : ℕ) (r : Rect) where
+  -- where all strips hold whole rows: no such page; strips outside the file; strips that end before the rectangle; there
+  pub rows-nowhere : (row : List ℕ) → channelStrips d (length t) scene time c z ≡ refused row → refused row ≡ rowStrips d t len scene time c z r
   unfolding rowStrips bind
   rows-nowhere row h = rw h
 
-  module _ (first row : ℕ) (h : channelStrips d (length t) scene time c z ≡ accepted first) (w : row ≡ rowBytes d) where
-    rows-found : (b : Bool) → wholeRowsOf row t first (d .stripsPerChannel) (d .dims .y) ≡ b → windowBy b d t len scene time c z first ≡ rowStrips d t len scene time c z
+  module _ (first : ℕ) (h : channelStrips d (length t) scene time c z ≡ accepted first) where
+    pub rows-outside : inside t len first (d .stripsPerChannel) ≡ false → refused decode ≡ rowStrips d t len scene time c z r
     unfolding rowStrips bind
-    rows-found b e = rw h (ap (λ (k : Bool). windowBy k d t len scene time c z first) (sym e ∙ channel-whole d t first row w))
+    rows-outside i = rw h (rw i)
 
-    pub rows-broken : (oversized : List ℕ) → pictureSize (d .dims .x) (d .dims .y) (d .kind) ≡ refused oversized
-        → wholeRowsOf row t first (d .stripsPerChannel) (d .dims .y) ≡ false → refused oversized ≡ rowStrips d t len scene time c z
-    rows-broken oversized o e = strips-oversized d t len scene time c z oversized o ∙ rows-found false e
+    pub rows-short : inside t len first (d .stripsPerChannel) ≡ true → leb (windowEnd d r) (total t first (d .stripsPerChannel)) ≡ false
+        → refused decode ≡ rowStrips d t len scene time c z r
+    unfolding rowStrips bind
+    rows-short i e = rw h (rw (i, e))
 
-    pub rows-outside : wholeRowsOf row t first (d .stripsPerChannel) (d .dims .y) ≡ true → inside t len first (d .stripsPerChannel) ≡ false
-        → refused decode ≡ rowStrips d t len scene time c z
-    unfolding bind
-    rows-outside e i = sym (rw i) ∙ rows-found true e
-
-    pub rows-at : wholeRowsOf row t first (d .stripsPerChannel) (d .dims .y) ≡ true → inside t len first (d .stripsPerChannel) ≡ true
-        → accepted first ≡ rowStrips d t len scene time c z
-    unfolding bind
-    rows-at e i = sym (rw i) ∙ rows-found true e
+    pub rows-at : inside t len first (d .stripsPerChannel) ≡ true → leb (windowEnd d r) (total t first (d .stripsPerChannel)) ≡ true
+        → accepted first ≡ rowStrips d t len scene time c z r
+    unfolding rowStrips bind
+    rows-at i e = rw h (rw (i, e))
 
   -- the rectangle's own size first
-  module _ (r : Rect) where
-    pub window-over : (row : List ℕ) → pictureSize (r .w) (r .h) (d .kind) ≡ refused row → refused row ≡ windowStrips d t len scene time c z r
-    unfolding windowStrips bind
-    window-over row e = rw e
+  pub window-over : (row : List ℕ) → pictureSize (r .w) (r .h) (d .kind) ≡ refused row → refused row ≡ windowStrips d t len scene time c z r
+  unfolding windowStrips bind
+  window-over row e = rw e
 
-    pub window-by-rows : (n : ℕ) → pictureSize (r .w) (r .h) (d .kind) ≡ accepted n → rowStrips d t len scene time c z ≡ windowStrips d t len scene time c z r
-    unfolding windowStrips rowStrips bind
-    window-by-rows n e = rw e
+  pub window-by-rows : (n : ℕ) → pictureSize (r .w) (r .h) (d .kind) ≡ accepted n → rowStrips d t len scene time c z r ≡ windowStrips d t len scene time c z r
+  unfolding windowStrips rowStrips bind
+  window-by-rows n e = rw e
 
-    pub region-whole : wholeRows d t ≡ true → windowStrips d t len scene time c z r ≡ regionStrips d t len scene time c z r
-    unfolding regionStrips
-    region-whole e = rw e
+  pub region-whole : wholeRows d t ≡ true → windowStrips d t len scene time c z r ≡ regionStrips d t len scene time c z r
+  unfolding regionStrips
+  region-whole e = rw e
 
-    pub region-oversized : (row : List ℕ) → pictureSize (d .dims .x) (d .dims .y) (d .kind) ≡ refused row → wholeRows d t ≡ false
-        → refused row ≡ regionStrips d t len scene time c z r
-    unfolding regionStrips
-    region-oversized row o e = strips-oversized d t len scene time c z row o ∙ rw e
+  pub region-broken : wholeRows d t ≡ false → planeStrips d t len scene time c z ≡ regionStrips d t len scene time c z r
+  unfolding regionStrips
+  region-broken e = rw e
 
--- the rows of the whole-row test have bytes, and fit the machine
-pub whole-row : (d : Description) (t : List ℕ) → wholeRows d t ≡ true → (0 < rowBytes d) × (rowBytes d < 2 ^ 64)
-unfolding wholeRows
-whole-row d t e =
-    let a = both-hold (not (eqb (rowBytes d) 0)) (ltb (rowBytes d) (2 ^ 64) && (ltb (d .layout .scenes * d .layout .depth) (2 ^ 64) && wholePages d t (d .layout .scenes * d .layout .depth))) e in
-    let b = both-hold (ltb (rowBytes d) (2 ^ 64)) (ltb (d .layout .scenes * d .layout .depth) (2 ^ 64) && wholePages d t (d .layout .scenes * d .layout .depth)) (a .1) in
-    let n = eqb-false (rowBytes d) 0 (not-true _ (a .0)) in
-    (omega arith, ltb-true _ _ (b .0))
+  pub region-oversized : (row : List ℕ) → pictureSize (d .dims .x) (d .dims .y) (d .kind) ≡ refused row → wholeRows d t ≡ false
+      → refused row ≡ regionStrips d t len scene time c z r
+  region-oversized row o e = strips-oversized d t len scene time c z row o ∙ region-broken e

@@ -1,10 +1,11 @@
 // The checks of plane and region after the coordinate's and the rectangle's, in their order.
 use crate::First;
 use crate::pages::channel_strips;
+use crate::pages::past_test;
 use crate::pages::whole_rows;
 use crate::strips::strips_inside;
 use crate::strips::strips_make;
-use crate::strips::strips_of_rows;
+use crate::strips::strips_reach;
 use lsm_description::Description;
 use lsm_format::error::Check;
 use lsm_format::error::Refusal;
@@ -15,27 +16,36 @@ use lsm_format::types::checked_coordinates;
 ghost use mathlib.Core.Path.{_≡_};
 ghost use mathlib.Core.Bool.{true};
 ghost use Prim.Native.Nat.{_<_};
-ghost use Rattle.lsm_format.specs.Answer.{accepted, refused};
-ghost use Rattle.lsm_format.specs.Code.{rowOf, rectOf, checkOf};
-ghost use Rattle.lsm_format.specs.Rectangle.{rectangle};
+ghost use Rattle.lsm_format.specs.Answer.{accepted};
+ghost use Rattle.lsm_format.specs.Code.{rectOf, checkOf};
 ghost use Rattle.lsm_format.specs.Sizes.{pictureSize};
 ghost use Rattle.lsm_format.specs.Picture.{coordinate, planeStrips, windowStrips, regionStrips, wholeRows};
 ghost use Rattle.lsm_description.specs.Code.{descriptionOf};
-ghost use Rattle.lsm_strips.specs.Parts.{firstOf, rowStrips};
+ghost use Rattle.lsm_strips.specs.Parts.{firstOf, sceneThere, Lying, rowStrips};
 
-// The scene, then t, c and z.
-pub(crate) fn checked_place(d: Description, scene: usize, t: usize, c: usize, z: usize) -> Check
-    ensures { λ r. ⌜ checkOf r ≡ coordinate (descriptionOf d) scene t c z ⌝ }
+// Whether the file has the scene.
+pub(crate) fn checked_scene(d: Description, scene: usize) -> Check
+    ensures { λ r. ⌜ checkOf r ≡ sceneThere (descriptionOf d) scene ⌝ }
 {
     let layout = d.layout;
-    let dims = d.dims;
     if layout.scenes <= scene {
         return Check::Refused(Refusal::SceneOutOfRange {
             scene,
             count: layout.scenes,
         });
     }
-    checked_coordinates(dims, scene, t, c, z)
+    Check::Accepted
+}
+
+// The scene, then t, c and z.
+pub(crate) fn checked_place(d: Description, scene: usize, t: usize, c: usize, z: usize) -> Check
+    ensures { λ r. ⌜ checkOf r ≡ coordinate (descriptionOf d) scene t c z ⌝ }
+{
+    let dims = d.dims;
+    match checked_scene(d, scene) {
+        Check::Accepted => checked_coordinates(dims, scene, t, c, z),
+        Check::Refused(missing) => Check::Refused(missing),
+    }
 }
 
 // The strips of a picture whose size is known and not above the limit.
@@ -86,8 +96,8 @@ pub(crate) fn plane_strips(
     }
 }
 
-// The strips of an oversized picture whose rectangle isn't. Pages past those of the whole-row test can be asked for, so the channel's
-// own strips are held to whole rows too; where they don't hold any, the picture's own refusal stands.
+// The strips of a rectangle where all pages' strips hold whole rows: they lie in the file, and the rectangle's last sample in them. A page
+// past those of the whole-row test can be asked for, and may lack it; what the joined strips hold need not fit 64 bits.
 fn row_strips(
     d: Description,
     table: &[usize],
@@ -96,23 +106,25 @@ fn row_strips(
     t: usize,
     c: usize,
     z: usize,
-    oversized: Refusal,
+    rect: PixelRect,
 ) -> First
     requires { ⌜ c < descriptionOf d .dims .c ⌝ }
-    requires { ⌜ pictureSize (descriptionOf d .dims .x) (descriptionOf d .dims .y) (descriptionOf d .kind) ≡ refused (rowOf oversized) ⌝ }
+    requires { ⌜ Lying (descriptionOf d) (rectOf rect) ⌝ }
     requires { ⌜ wholeRows (descriptionOf d) (now table) ≡ true ⌝ }
-    ensures { λ r. ⌜ firstOf r ≡ rowStrips (descriptionOf d) (now (table .entry)) len scene t c z ⌝ }
+    ensures { λ r. ⌜ firstOf r ≡ rowStrips (descriptionOf d) (now (table .entry)) len scene t c z (rectOf rect) ⌝ }
 {
     let dims = d.dims;
     let dtype = d.dtype;
     let n = d.strips_per_channel;
     match channel_strips(d, table.len(), scene, t, c, z) {
         First::At(first) => {
-            let row = dims.x * dtype.size_bytes();
-            if !strips_of_rows(table, first, n, row, dims.y) {
-                return First::Refused(oversized);
+            let s = dtype.size_bytes();
+            let last = rect.y + rect.h - 1;
+            let part = (rect.x + rect.w) * s;
+            if !strips_inside(table, first, n, len) {
+                return First::Refused(Refusal::Decode);
             }
-            if strips_inside(table, first, n, len) {
+            if strips_reach(table, first, n, dims.x * s, last, part) {
                 First::At(first)
             } else {
                 First::Refused(Refusal::Decode)
@@ -132,10 +144,9 @@ fn window_strips(
     c: usize,
     z: usize,
     rect: PixelRect,
-    oversized: Refusal,
 ) -> First
     requires { ⌜ c < descriptionOf d .dims .c ⌝ }
-    requires { ⌜ pictureSize (descriptionOf d .dims .x) (descriptionOf d .dims .y) (descriptionOf d .kind) ≡ refused (rowOf oversized) ⌝ }
+    requires { ⌜ Lying (descriptionOf d) (rectOf rect) ⌝ }
     requires { ⌜ wholeRows (descriptionOf d) (now table) ≡ true ⌝ }
     ensures { λ r. ⌜ firstOf r ≡ windowStrips (descriptionOf d) (now (table .entry)) len scene t c z (rectOf rect) ⌝ }
 {
@@ -148,13 +159,13 @@ fn window_strips(
         x: rect.w,
     };
     match part.checked_plane_bytes(dtype) {
-        PlaneBytes::Bytes(_) => row_strips(d, table, len, scene, t, c, z, oversized),
+        PlaneBytes::Bytes(_) => row_strips(d, table, len, scene, t, c, z, rect),
         PlaneBytes::Refused(r) => First::Refused(r),
     }
 }
 
-// Region's checks after the rectangle. Where the picture isn't oversized plane's checks decide, whatever the strips of other pages
-// hold; so the test over all pages is made for an oversized picture only.
+// Region's checks after the rectangle. Plane's checks decide for a picture that isn't oversized, whatever the strips of other pages hold,
+// unless its page is past those of the whole-row test; so the test over all pages is made only for an oversized picture or such a page.
 pub(crate) fn region_strips(
     d: Description,
     table: &[usize],
@@ -166,16 +177,25 @@ pub(crate) fn region_strips(
     rect: PixelRect,
 ) -> First
     requires { ⌜ c < descriptionOf d .dims .c ⌝ }
-    requires { ⌜ rectangle (descriptionOf d .dims) (rectOf rect) ≡ accepted tt ⌝ }
+    requires { ⌜ Lying (descriptionOf d) (rectOf rect) ⌝ }
     ensures { λ r. ⌜ firstOf r ≡ regionStrips (descriptionOf d) (now (table .entry)) len scene t c z (rectOf rect) ⌝ }
 {
     let dims = d.dims;
     let dtype = d.dtype;
     match dims.checked_plane_bytes(dtype) {
-        PlaneBytes::Bytes(size) => sized_strips(d, table, len, scene, t, c, z, size),
+        PlaneBytes::Bytes(size) => {
+            if !past_test(d, scene, z) {
+                return sized_strips(d, table, len, scene, t, c, z, size);
+            }
+            if whole_rows(d, table) {
+                window_strips(d, table, len, scene, t, c, z, rect)
+            } else {
+                sized_strips(d, table, len, scene, t, c, z, size)
+            }
+        }
         PlaneBytes::Refused(r) => {
             if whole_rows(d, table) {
-                window_strips(d, table, len, scene, t, c, z, rect, r)
+                window_strips(d, table, len, scene, t, c, z, rect)
             } else {
                 First::Refused(r)
             }

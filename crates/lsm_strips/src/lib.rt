@@ -4,13 +4,14 @@ mod pages;
 mod strips;
 
 use crate::checks::checked_place;
+use crate::checks::checked_scene;
 use crate::checks::plane_strips;
 use crate::checks::region_strips;
 use lsm_description::Description;
 use lsm_format::error::Check;
 use lsm_format::error::Refusal;
 use lsm_format::types::PixelRect;
-use lsm_format::types::checked_rectangle;
+use lsm_format::types::checked_region;
 ghost use mathlib.Core.Path.{_≡_};
 ghost use Prim.Native.Nat.{_<_};
 ghost use Rattle.lsm_format.specs.Answer.{accepted};
@@ -74,7 +75,7 @@ fn first_of_part(
     }
 }
 
-// Region's: the coordinate, the rectangle, whether it is empty, then the strips.
+// Region's: the scene, the coordinate and the rectangle, whether it is empty, then the strips.
 pub fn first_of_region(
     d: Description,
     table: &[usize],
@@ -88,11 +89,11 @@ pub fn first_of_region(
     ensures { λ r. ⌜ partOf r ≡ regionFirst (descriptionOf d) (now (table .entry)) len scene t c z (rectOf rect) ⌝ }
 {
     let dims = d.dims;
-    match checked_place(d, scene, t, c, z) {
-        Check::Accepted => match checked_rectangle(dims, rect) {
+    match checked_scene(d, scene) {
+        Check::Accepted => match checked_region(dims, scene, t, c, z, rect) {
             Check::Accepted => first_of_part(d, table, len, scene, t, c, z, rect),
             Check::Refused(outside) => Part::Refused(outside),
         },
-        Check::Refused(coordinate) => Part::Refused(coordinate),
+        Check::Refused(missing) => Part::Refused(missing),
     }
 }

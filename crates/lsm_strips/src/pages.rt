@@ -6,6 +6,7 @@ use lsm_description::Description;
 use lsm_format::checked::Word;
 use lsm_format::checked::checked_mul;
 use lsm_format::error::Refusal;
+use lsm_positions::ExpectedPages;
 use lsm_positions::PageIndex;
 ghost use mathlib.Core.Path.{_≡_};
 ghost use mathlib.Core.Bool.{true};
@@ -13,7 +14,7 @@ ghost use Prim.Native.Nat.{_+_, _*_, _≤_, _<_};
 ghost use lib.ListN.{length};
 ghost use Rattle.lsm_format.specs.Picture.{stripsPerPage, channelStrips, rowBytes, wholeChannels, wholePages, wholeRows};
 ghost use Rattle.lsm_description.specs.Code.{descriptionOf};
-ghost use Rattle.lsm_strips.specs.Parts.{firstOf, pageIn, wholePage};
+ghost use Rattle.lsm_strips.specs.Parts.{firstOf, pageIn, pastTest, wholePage};
 
 // Whether a table of so many words has this page whole, where a page has so many strips.
 fn has_page(strips: usize, words: usize, page: usize) -> bool
@@ -50,6 +51,20 @@ pub(crate) fn channel_strips(
         First::At(page * strips + c * d.strips_per_channel)
     } else {
         First::Refused(outside)
+    }
+}
+
+// Whether the page that a scene's focal plane has is past those of the whole-row test. No page of an opened file is.
+pub(crate) fn past_test(d: Description, scene: usize, z: usize) -> bool
+    ensures { λ r. ⌜ r ≡ pastTest (descriptionOf d) scene z ⌝ }
+{
+    let layout = d.layout;
+    let PageIndex::Page(page) = layout.page_index(scene, z) else {
+        return false;
+    };
+    match layout.expected_pages() {
+        ExpectedPages::Pages(pages) => pages <= page,
+        ExpectedPages::Refused(_) => false,
     }
 }
 

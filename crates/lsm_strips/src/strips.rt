@@ -3,7 +3,7 @@ ghost use mathlib.Core.Path.{_≡_};
 ghost use Prim.Native.Nat.{_+_, _*_, _≤_, _<_};
 ghost use lib.Dec.{leb};
 ghost use lib.ListN.{length};
-ghost use Rattle.lsm_format.specs.Picture.{inside};
+ghost use Rattle.lsm_format.specs.Picture.{total, inside};
 ghost use Rattle.lsm_strips.specs.Parts.{made, wholeRowsOf};
 
 // Whether a strip lies in a file of so many bytes. Its end can overflow, so it isn't reckoned.
@@ -83,6 +83,46 @@ pub(crate) fn strips_of_rows(
         rest -= rows;
         i += 1;
         left -= 1;
+    }
+    rest == 0
+}
+
+// Whether the strips together have so many rows of `row` bytes, and `part` bytes more. What is still to come of these is counted down: the
+// rows that begin in a strip are taken off, and the last of them reaches into the next.
+pub(crate) fn strips_reach(
+    table: &[usize],
+    first: usize,
+    n: usize,
+    row: usize,
+    rows: usize,
+    part: usize,
+) -> bool
+    requires { ⌜ (2 * (first + n) ≤ length (now table)) × (0 < row) ⌝ }
+    ensures { λ r. ⌜ r ≡ leb (rows * row + part) (total (now (table .entry)) first n) ⌝ }
+{
+    let mut i = first;
+    let mut left = n;
+    let mut ahead = rows;
+    let mut rest = part;
+    while 0 < left {
+        let count = table[2 * i + 1];
+        if count <= rest {
+            rest -= count;
+            i += 1;
+            left -= 1;
+        } else {
+            let here = (count - rest) / row;
+            if ahead <= here {
+                return true;
+            }
+            rest = row - (count - rest) % row;
+            ahead -= here + 1;
+            i += 1;
+            left -= 1;
+        }
+    }
+    if 0 < ahead {
+        return false;
     }
     rest == 0
 }

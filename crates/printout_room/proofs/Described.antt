@@ -159,7 +159,7 @@ few d table small fits room =
 
 read-few : (f : List ℕ) → Bytes f → (x : Opened) → read f ≡ accepted x → length (x .table) ≤ 4096 → Few (x .description)
 read-few f bytes x e room =
-    few (x .description) (x .table) (accepting-told _ (read f) x (read-small f bytes) e) (accepting-told _ (read f) x (read-fits f) e .1) room
+    few (x .description) (x .table) (accepting-told _ (read f) x (read-small f bytes) e) (accepting-told _ (read f) x (read-fits f) e) room
 
 pub open-few : (f : List ℕ) → Bytes f → Accepting (λ (x : Opened). Few (x .description)) (openFile f 4096)
 unfolding openFile Accepting

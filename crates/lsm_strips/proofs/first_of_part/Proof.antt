@@ -6,7 +6,7 @@ use mathlib.Core.Path.{sym, ap, _∙_}
 use Rattle.lsm_format.specs.Code.{rectOf}
 use Rattle.lsm_description.specs.Code.{descriptionOf}
 use Rattle.lsm_strips.specs.Parts.{firstOf}
-use Rattle.lsm_strips.proofs.Asking.{part-empty, part-unfit, part-fit}
+use Rattle.lsm_strips.proofs.Asking.{part-empty, part-unfit, part-fit, lying}
 
 is-empty-requires : tie.Need-is-empty-requires
 is-empty-requires c κs = search needs
@@ -17,7 +17,9 @@ returns c =
     part-empty (descriptionOf (a .d)) (a .table .now) (a .len) (a .scene) (a .t) (a .c) (a .z) (rectOf (a .rect)) (sym (c .before .is-empty .ensures) ∙ c .if1 .taken)
 
 region-strips-requires : tie.Need-region-strips-requires
-region-strips-requires c κs = search needs
+region-strips-requires c κs =
+    let s = c .before .before .before in
+    (s .pre .0, lying _ _ _ (s .pre .1) (sym (c .before .is-empty .ensures) ∙ c .if1 .left))
 
 enum-known-first : tie.Need-enum-known-first
 enum-known-first c = search needs

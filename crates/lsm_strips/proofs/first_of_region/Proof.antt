@@ -1,28 +1,26 @@
--- `lsm_strips::first_of_region` meets its contract. Assumes nothing.
+-- `lsm_strips::first_of_region` meets its contract: the scene, then the coordinate with the rectangle, then what is asked of the strips.
+-- Assumes nothing.
 use borrow.Author.Needs.{needs}
 use Rattle.lsm_strips.proofs.first_of_region.Statement.{statement}
 use Rattle.lsm_strips.proofs.first_of_region.Tie as tie
 use mathlib.Core.Path.{_≡_, sym, ap, _∙_}
 use Rattle.lsm_format.specs.Answer.{accepted}
 use Rattle.lsm_format.specs.Code.{checkOf}
-use Rattle.lsm_format.specs.Picture.{coordinate}
-use Rattle.lsm_format.proofs.Picture.{coordinate-channel}
 use Rattle.lsm_description.specs.Code.{descriptionOf}
-use Rattle.lsm_strips.proofs.Asking.{region-outside, region-off, region-within}
+use Rattle.lsm_strips.specs.Parts.{sceneThere}
+use Rattle.lsm_strips.proofs.Asking.{region-outside, region-off, region-within, region-there}
 
-placed : (c : tie.After-enum-told)
-    → coordinate (descriptionOf (c .before .before .before .before .before .args .d)) (c .before .before .before .before .before .args .scene) (c .before .before .before .before .before .args .t) (c .before .before .before .before .before .args .c) (c .before .before .before .before .before .args .z)
-    ≡ accepted tt
-placed c = sym (c .before .before .checked-place .ensures) ∙ ap checkOf (c .enum-told .given .1)
+there : (c : tie.After-enum-told) → sceneThere (descriptionOf (c .before .before .before .before .before .args .d)) (c .before .before .before .before .before .args .scene) ≡ accepted tt
+there c = sym (c .before .before .checked-scene .ensures) ∙ ap checkOf (c .enum-told .given .1)
 
-checked-place-requires : tie.Need-checked-place-requires
-checked-place-requires c κs = search needs
+checked-scene-requires : tie.Need-checked-scene-requires
+checked-scene-requires c κs = search needs
 
 enum-told : tie.Need-enum-told
 enum-told c = search needs
 
-checked-rectangle-requires : tie.Need-checked-rectangle-requires
-checked-rectangle-requires c κs = search needs
+checked-region-requires : tie.Need-checked-region-requires
+checked-region-requires c κs = search needs
 
 enum-told-2 : tie.Need-enum-told-2
 enum-told-2 c = search needs
@@ -30,39 +28,39 @@ enum-told-2 c = search needs
 first-of-part-requires : tie.Need-first-of-part-requires
 first-of-part-requires c κs =
     let k = c .before .before in
-    (coordinate-channel _ _ _ _ _ _ (placed (k .before)), sym (k .checked-rectangle .ensures) ∙ ap checkOf (c .enum-told2 .given .1))
+    region-there _ _ _ _ _ _ _ _ (there (k .before)) (sym (k .checked-region .ensures) ∙ ap checkOf (c .enum-told2 .given .1))
 
 enum-known-outside : tie.Need-enum-known-outside
 enum-known-outside c = search needs
 
-enum-known-coordinate : tie.Need-enum-known-coordinate
-enum-known-coordinate c = search needs
+enum-known-missing : tie.Need-enum-known-missing
+enum-known-missing c = search needs
 
 returns : tie.Need-returns
 returns c =
     let e = c .before in
     let k = e .before .before in
-    c .first-of-part .ensures ∙ region-within _ _ _ _ _ _ _ _ _ _ (placed (k .before)) (sym (k .checked-rectangle .ensures) ∙ ap checkOf (e .enum-told2 .given .1))
+    c .first-of-part .ensures ∙ region-within _ _ _ _ _ _ _ _ _ _ (there (k .before)) (sym (k .checked-region .ensures) ∙ ap checkOf (e .enum-told2 .given .1))
 
 returns-2 : tie.Need-returns-2
 returns-2 c =
     let k = c .before .before .before in
-    region-off _ _ _ _ _ _ _ _ _ _ (placed (k .before)) (sym (k .checked-rectangle .ensures) ∙ ap checkOf (c .before .outside .given .1))
+    region-off _ _ _ _ _ _ _ _ _ _ (there (k .before)) (sym (k .checked-region .ensures) ∙ ap checkOf (c .before .outside .given .1))
 
 returns-3 : tie.Need-returns-3
-returns-3 c = region-outside _ _ _ _ _ _ _ _ _ (sym (c .before .before .before .checked-place .ensures) ∙ ap checkOf (c .before .coordinate .given .1))
+returns-3 c = region-outside _ _ _ _ _ _ _ _ _ (sym (c .before .before .before .checked-scene .ensures) ∙ ap checkOf (c .before .missing .given .1))
 
 pub first-of-region-spec : {M : Type 1} → statement M
 first-of-region-spec =
     tie.close
     (tie.spec
-    checked-place-requires
+    checked-scene-requires
     enum-told
-    checked-rectangle-requires
+    checked-region-requires
     enum-told-2
     first-of-part-requires
     enum-known-outside
-    enum-known-coordinate
+    enum-known-missing
     returns
     returns-2
     returns-3)

@@ -21,14 +21,14 @@ seek-requires : tie.Need-seek-requires
 seek-requires c κs =
     let s = c .before .before .before .before in
     let r = s .pre .0 in
-    ((r .words, r .among, omega (arith, r .some, r .across)), omega (arith, rows-held r (c .if1 .left), r .some, part-in (s .args .h) (s .args .part) 0 (s .pre .1 .1)))
+    ((r .words, r .among, omega (arith, r .some, r .across)), omega (arith, rows-held r (c .if1 .left) (s .pre .1 .1), r .some, part-in (s .args .h) (s .args .part) 0 (s .pre .1 .1)))
 
 run-requires : tie.Need-run-requires
 run-requires c κs =
     let s = c .before .before .before .before .before .before in
     let r = s .pre .0 in
     let S = c .before .seek .ensures in
-    ((r .words, S .among), (stands-left _ S (rw (s .pre .1 .0) (rows-held r (c .before .before .if1 .left))), stands-inside _ S (r .within)))
+    ((r .words, S .among), (stands-left _ S (rw (s .pre .1 .0) (rows-held r (c .before .before .if1 .left) (s .pre .1 .1))), stands-inside _ S (r .within)))
 
 same-length-2 : tie.Need-same-length-2
 same-length-2 c = search needs

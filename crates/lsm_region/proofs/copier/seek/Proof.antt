@@ -6,7 +6,8 @@ use Prim.Native.Nat.{_+_, _-_, _*_, _^_, _<_, _≤_}
 use native.Mathlib.Nat.{mod-lt}
 use mathlib.Core.Path.{refl}
 use Rattle.lsm_region.specs.Cursor.{Stands}
-use Rattle.lsm_region.proofs.Walking.{stands-start, stands-as, stands-past, stands-more, ahead-past, ahead-fits, ahead-here, ahead-over, ahead-none}
+use Rattle.lsm_region.proofs.Walking.{stands-start, stands-as, stands-past, stands-more, ahead-here, ahead-none}
+use Rattle.lsm_strips.proofs.Judging.{ahead-past, ahead-fits, ahead-over}
 use borrow.Author.Needs.{needs}
 use Rattle.lsm_format.specs.Picture.{countOf}
 

@@ -1,18 +1,38 @@
--- `lsm_strips::checks::checked_place` meets its contract. Assumes nothing.
+-- `lsm_strips::checks::checked_place` meets its contract: the scene's answer, then the coordinate's. Assumes nothing.
 use borrow.Author.Needs.{needs}
 use Rattle.lsm_strips.proofs.checks.checked_place.Statement.{statement}
 use Rattle.lsm_strips.proofs.checks.checked_place.Tie as tie
-use mathlib.Core.Path.{_∙_}
-use Rattle.lsm_strips.proofs.Judging.{scene-outside, scene-inside}
+use mathlib.Core.Path.{sym, ap, _∙_}
+use Rattle.lsm_format.specs.Code.{checkOf}
+use Rattle.lsm_strips.proofs.Judging.{place-there, place-missing}
 
-returns : tie.Need-returns
-returns c = scene-outside _ _ _ _ _ (c .if1 .taken)
+checked-scene-requires : tie.Need-checked-scene-requires
+checked-scene-requires c κs = search needs
+
+enum-told : tie.Need-enum-told
+enum-told c = search needs
 
 checked-coordinates-requires : tie.Need-checked-coordinates-requires
 checked-coordinates-requires c κs = search needs
 
+enum-known-missing : tie.Need-enum-known-missing
+enum-known-missing c = search needs
+
+returns : tie.Need-returns
+returns c =
+    let k = c .before in
+    c .checked-coordinates .ensures ∙ place-there _ _ _ _ _ _ (sym (k .before .before .checked-scene .ensures) ∙ ap checkOf (k .enum-told .given .1))
+
 returns-2 : tie.Need-returns-2
-returns-2 c = c .checked-coordinates .ensures ∙ scene-inside _ _ _ _ _ (c .before .if1 .left)
+returns-2 c = place-missing _ _ _ _ _ _ (sym (c .before .before .before .checked-scene .ensures) ∙ ap checkOf (c .before .missing .given .1))
 
 pub checked-place-spec : {M : Type 1} → statement M
-checked-place-spec = tie.close (tie.spec returns checked-coordinates-requires returns-2)
+checked-place-spec =
+    tie.close
+    (tie.spec
+    checked-scene-requires
+    enum-told
+    checked-coordinates-requires
+    enum-known-missing
+    returns
+    returns-2)
