@@ -14,8 +14,7 @@ use lib.Seq.{take-at}
 use Rattle.lsm_format.specs.Answer.{Result, accepted, refused, bind}
 use Rattle.lsm_format.specs.Numbers.{Order}
 use Rattle.lsm_format.specs.Lent.{filled}
-use Rattle.lsm_format.specs.Utf8.{lossy}
-use Rattle.lsm_format.specs.Channels.{Channel, trimmed, nameBy, name, recordOf, channelBy, pointers, channelIn, textOf, lookup, lookupMemory}
+use Rattle.lsm_format.specs.Channels.{Channel, kept, nameSpan, textIn, name, recordOf, channelBy, pointers, channelIn, textOf, lookup, lookupMemory}
 use Rattle.lsm_format.proofs.Lent.{lend-room, filled-room}
 use Rattle.printout_room.proofs.Texts.{text-length}
 use Rattle.lsm_channel_colors.specs.Code.{Seen, metaOf, answerOf, lengthOf, seen, Looked}
@@ -27,20 +26,20 @@ use Rattle.printout_channels.specs.Channel.{firstOf, channelOf}
 
 -- ---- a name
 
--- the name of a record, by whether it is short enough
-abbrev given : Bool → List ℕ → Option (List ℕ)
-given t text = elim t [ true ↦ some text | false ↦ none ]
+-- a record, by whether it is short enough
+abbrev given : Bool → ℕ × ℕ → Option (ℕ × ℕ)
+given t r = elim t [ true ↦ some r | false ↦ none ]
 
-record-room : (f : List ℕ) (r : Option (ℕ × ℕ)) → length (textOf (nameBy f r)) ≤ 3072
+record-room : (f : List ℕ) (r : Option (ℕ × ℕ)) → length (textOf (textIn f (kept r))) ≤ 3072
 record-room f none = omega arith
 record-room f (some r) = go (leb (r .1) 1024) refl
   where
-    go : (t : Bool) → leb (r .1) 1024 ≡ t → length (textOf (given t (lossy (trimmed (take (r .1) (drop (r .0) f)))))) ≤ 3072
+    go : (t : Bool) → leb (r .1) 1024 ≡ t → length (textOf (textIn f (given t r))) ≤ 3072
     go true e = omega (arith, text-length (drop (r .0) f) (r .1), leb-true (r .1) 1024 e)
     go false e = omega arith
 
 name-room : (o : Order) (f : List ℕ) (block : ℕ) (names : ℤ) (channel : ℕ) → length (textOf (name o f block names channel)) ≤ 3072
-unfolding name
+unfolding name nameSpan
 name-room o f block (pos zero) channel = omega arith
 name-room o f block (pos (suc n)) channel = record-room f (recordOf o f (block + suc n) channel)
 name-room o f block (negsuc n) channel = omega arith
