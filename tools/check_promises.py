@@ -10,6 +10,7 @@ def defined(name, src):
 spec = {os.path.basename(p)[:-5]: open(p).read() for p in glob.glob('crates/lsm_format/specs/*.antt')}
 allspecs, allproofs = text('crates/*/specs/*.antt'), text('crates/*/proofs/**/*.antt')
 marked = {name: text(f'crates/marked_cases/proofs/{name}.antt') for name in ('Table', 'Listed', 'Second', 'Handed')}
+marked['Marked'] = text('crates/marked_cases/specs/Marked.antt')
 programs = {'lsm_replay', 'lsm_replay_open', 'lsm_replay_pictures', 'utf8_vectors', 'lsm_list', 'lsm_list_files'}
 laws = text('crates/*/proofs/*.antt')
 def fn(crate, name):
@@ -56,7 +57,7 @@ for no, line in enumerate(open('docs/PROMISES.md'), 1):
         seg = seg.strip().replace('`', '')
         seg = re.sub(r' for what is written$', '', seg)
         if not seg: continue
-        m = re.match(r'(Table|Listed|Second|Handed|law): (.*)', seg)
+        m = re.match(r'(Marked|Table|Listed|Second|Handed|law): (.*)', seg)
         if m:
             for name in m[2].split(','):
                 n += 1

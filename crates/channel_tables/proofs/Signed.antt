@@ -15,7 +15,7 @@ use mir.Val.{SFits, toZ, ofZ}
 use mir.ValLaws.{toZ-ofZ}
 use Rattle.lsm_format.specs.Answer.{Result, accepted}
 use Rattle.lsm_format.specs.Numbers.{Order, i32At}
-use Rattle.lsm_format.specs.Channels.{nameRecord, name}
+use Rattle.lsm_format.specs.Channels.{nameRecord, nameSpan}
 use Rattle.lsm_format.proofs.Channels.{record-negative}
 use Rattle.lsm_bytes.specs.Code.{i32Of}
 use Rattle.lsm_bytes.specs.declared.I32.{I32}
@@ -74,8 +74,8 @@ pub no-length : (o : Order) (f : List ℕ) (place : ℕ) (z : ℤ) → i32At o f
 no-length o f place (pos n) e h = let z : _≡_ {A = ℕ} 0 1 = cc in absurd (omega arith)
 no-length o f place (negsuc n) e h = record-negative o f place n e
 
-pub no-names : (o : Order) (f : List ℕ) (block : ℕ) (z : ℤ) (channel : ℕ) → pointed z ≡ none → none ≡ name o f block z channel
-unfolding name
+pub no-names : (o : Order) (f : List ℕ) (block : ℕ) (z : ℤ) (channel : ℕ) → pointed z ≡ none → none ≡ nameSpan o f block z channel
+unfolding nameSpan
 no-names o f block (pos zero) channel e = refl
 no-names o f block (pos (suc n)) channel e = let z : _≡_ {A = ℕ} 0 1 = cc in absurd (omega arith)
 no-names o f block (negsuc n) channel e = refl

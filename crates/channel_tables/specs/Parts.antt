@@ -1,14 +1,8 @@
 -- What the functions answer, in the definitions' terms.
-use Prim.Native.Nat.{ℕ, zero, suc, _+_, _≤_}
-use mathlib.Core.Path.{_≡_}
+use Prim.Native.Nat.{ℕ, zero, suc}
 use mathlib.Core.Option.{Option, none, some}
-use mathlib.Core.List.{List}
 use lib.IntN.{ℤ, pos, negsuc}
-use lib.ListN.{length, take, drop}
 use Rattle.lsm_format.specs.Answer.{Result, accepted, refused, parse}
-use Rattle.lsm_format.specs.Channels.{trimmed, name}
-use Rattle.lsm_format.specs.Numbers.{Order}
-use Rattle.lsm_format.specs.Utf8.{lossy}
 use Rattle.channel_tables.specs.declared.Count.{Count}
 use Rattle.channel_tables.specs.declared.Count.the-variants.{Value, Nothing}
 use Rattle.channel_tables.specs.declared.Pointers.{Pointers}
@@ -38,17 +32,3 @@ pointersOf NoPointers = refused parse
 abbrev pub spanOf : Record → Option (ℕ × ℕ)
 spanOf (At start len) = some (start, len)
 spanOf Absent = none
-
--- The text of the bytes, and that they are in the file.
-abbrev pub textIn : List ℕ → Option (ℕ × ℕ) → Option (List ℕ)
-textIn f none = none
-textIn f (some r) = some (lossy (trimmed (take (r .1) (drop (r .0) f))))
-
-abbrev pub Inside : List ℕ → Option (ℕ × ℕ) → Type 0
-Inside f none = Unit {0}
-Inside f (some r) = r .0 + r .1 ≤ length f
-
--- The bytes that a channel's name is made of.
-pub record Named (o : Order) (f : List ℕ) (block : ℕ) (names : ℤ) (channel : ℕ) (r : Option (ℕ × ℕ)) : Type 0 where
-  pub text : textIn f r ≡ name o f block names channel
-  pub inside : Inside f r

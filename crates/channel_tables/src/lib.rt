@@ -5,9 +5,9 @@ use lsm_format::checked::Word;
 use lsm_format::checked::checked_add;
 use lsm_format::types::Endian;
 ghost use mathlib.Core.Path.{_≡_};
-ghost use Rattle.lsm_format.specs.Channels.{pointers, nameRecord, recordOf};
+ghost use Rattle.lsm_format.specs.Channels.{pointers, nameRecord, recordOf, nameSpan};
 ghost use Rattle.lsm_format.specs.Code.{orderOf};
-ghost use Rattle.channel_tables.specs.Parts.{natural, pointed, countOf, pointersOf, spanOf, Named};
+ghost use Rattle.channel_tables.specs.Parts.{natural, pointed, countOf, pointersOf, spanOf};
 
 // Where in the block the two pointers stand: to the colours and to the names.
 const TABLE_POINTERS: usize = 12;
@@ -116,7 +116,7 @@ fn find_record(buf: &[u8], first: usize, endian: Endian, channel: usize) -> Reco
 
 // Where the bytes of a channel's name stand, if it has one that is given. Only this channel's name is held to the longest.
 pub fn find_name(buf: &[u8], block: usize, names: i32, endian: Endian, channel: usize) -> Record
-    ensures { λ r. ⌜ Named (orderOf endian) (now (buf .entry)) block names channel (spanOf r) ⌝ }
+    ensures { λ r. ⌜ spanOf r ≡ nameSpan (orderOf endian) (now (buf .entry)) block names channel ⌝ }
 {
     let Count::Value(table) = table_of(names) else {
         return Record::Absent;

@@ -11,17 +11,17 @@ use Rattle.lsm_format.specs.Code.{rowOf}
 use Rattle.lsm_format.specs.Numbers.{Order}
 use Rattle.lsm_format.specs.Utf8.{lossy}
 use Rattle.lsm_format.specs.Channels as Rule
-use Rattle.lsm_format.specs.Channels.{pointers, colorAt, color, trimmed, channelIn, lookup}
+use Rattle.lsm_format.specs.Channels.{pointers, colorAt, color, nameSpan, trimmed, textIn, name, channelIn, lookup}
 use Rattle.lsm_format.specs.declared.error.Refusal.{Refusal}
-use Rattle.lsm_format.proofs.Channels.{color-pointed, channel-unread, channel-there, lookup-outside, memory-outside, lookup-nameless, memory-nameless, lookup-named, memory-named}
+use Rattle.lsm_format.proofs.Channels.{color-pointed, span-inside, channel-unread, channel-there, lookup-outside, memory-outside, lookup-nameless, memory-nameless, lookup-named, memory-named}
 use Rattle.utf8.specs.Code.{decodedOf, Decoding}
 use Rattle.utf8.specs.declared.Decoded.{Decoded}
 use Rattle.utf8.specs.declared.Decoded.the-variants.{Length, Refused}
 use Rattle.utf8.proofs.Lent.{told-length}
-use Rattle.channel_tables.specs.Parts.{pointed, spanOf, textIn, Inside, Named}
+use Rattle.channel_tables.specs.Parts.{pointed, spanOf}
 use Rattle.channel_tables.proofs.Signed.{pointed-is}
 use Rattle.lsm_channel_colors.specs.Code.{colorOf, Looked}
-use Rattle.lsm_channel_colors.specs.Parts.{Trimming, Stating}
+use Rattle.lsm_channel_colors.specs.Parts.{Trimming, Inside, Stating}
 use Rattle.lsm_channel_colors.specs.declared.Color.{Color}
 use Rattle.lsm_channel_colors.specs.declared.Color.the-variants.{Absent as NoColor}
 use Rattle.channel_tables.specs.declared.Record.{Record}
@@ -43,6 +43,10 @@ color-is f block z channel n place e p =
 
 -- ---- what the file states of a channel: no block; no pointers; both pointers
 
+record-inside : (o : Order) (f : List ℕ) (block : ℕ) (z : ℤ) (channel : ℕ) (n : Record) → spanOf n ≡ nameSpan o f block z channel → Inside f (spanOf n)
+record-inside o f block z channel Absent e = tt
+record-inside o f block z channel (At start len) e = span-inside o f block z channel start len (sym e)
+
 module _ (o : Order) (f : List ℕ) (block : Option ℕ) (channel : ℕ) where
   pub stating-nowhere : block ≡ none → Stating o f block channel (record { color = NoColor; name = Absent })
   unfolding channelIn
@@ -57,11 +61,12 @@ module _ (o : Order) (f : List ℕ) (block : Option ℕ) (channel : ℕ) where
   }
 
   pub stating-there : (place : ℕ) (a b : ℤ) (c : Color) (n : Record) → block ≡ some place → pointers o f place ≡ accepted (a, b) →
-      colorOf c ≡ color f place a channel → Named o f place b channel (spanOf n) → Stating o f block channel (record { color = c; name = n })
+      colorOf c ≡ color f place a channel → spanOf n ≡ nameSpan o f place b channel → Stating o f block channel (record { color = c; name = n })
+  unfolding name
   stating-there place a b c n e p h k = record {
     color = rw (e, channel-there o f place channel a b p) h;
-    text = rw (e, channel-there o f place channel a b p) (k .text);
-    inside = k .inside;
+    text = rw (e, channel-there o f place channel a b p) (ap (textIn f) k);
+    inside = record-inside o f place b channel n k;
   }
 
 -- ---- a name's bytes

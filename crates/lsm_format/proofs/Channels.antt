@@ -13,8 +13,7 @@ use borrow.Author.Tests.{le-leb, lt-leb, lt-ltb, le-ltb, leb-true, leb-false}
 use Rattle.lsm_format.specs.Answer.{Result, accepted, refused, bind, parse, outOfRange}
 use Rattle.lsm_format.specs.Numbers.{Order, numberAt, i32At}
 use Rattle.lsm_format.specs.Lent.{lend, filled}
-use Rattle.lsm_format.specs.Utf8.{lossy}
-use Rattle.lsm_format.specs.Channels.{pointers, colorAt, color, recordBy, nameRecord, recordOf, joined, trimmed, nameBy, name, channelIn, textOf, lookup, lookupMemory}
+use Rattle.lsm_format.specs.Channels.{pointers, colorAt, color, recordBy, nameRecord, recordOf, kept, nameSpan, joined, trimmed, name, channelIn, textOf, lookup, lookupMemory}
 use Rattle.lsm_format.proofs.Numbers.{part-past, part-there, part-bytes, number-past}
 
 -- a signed number that was read is in the file
@@ -191,26 +190,43 @@ module _ (f : List ℕ) (start : ℕ) where
   trimmed-none zero h = refl
   trimmed-none (suc n) h = absurd (omega arith)
 
--- ---- the name of a channel: no record; a record that is too long; one that is given
+-- ---- where a channel's name stands: no record; a record that is too long; one that is given
 
 module _ (o : Order) (f : List ℕ) (block n channel : ℕ) (p : 0 < n) where
-  name-pointed : name o f block (pos n) channel ≡ nameBy f (recordOf o f (block + n) channel)
-  unfolding name
-  name-pointed = pointed n p
+  span-pointed : nameSpan o f block (pos n) channel ≡ kept (recordOf o f (block + n) channel)
+  unfolding nameSpan
+  span-pointed = pointed n p
     where
-      pointed : (m : ℕ) → 0 < m → name o f block (pos m) channel ≡ nameBy f (recordOf o f (block + m) channel)
+      pointed : (m : ℕ) → 0 < m → nameSpan o f block (pos m) channel ≡ kept (recordOf o f (block + m) channel)
       pointed zero h = absurd (omega arith)
       pointed (suc m) h = refl
 
-  pub name-none : recordOf o f (block + n) channel ≡ none → none ≡ name o f block (pos n) channel
-  name-none e = rw (name-pointed, e)
+  pub span-none : recordOf o f (block + n) channel ≡ none → none ≡ nameSpan o f block (pos n) channel
+  span-none e = rw (span-pointed, e)
 
-  pub name-long : (s l : ℕ) → recordOf o f (block + n) channel ≡ some (s, l) → 1024 < l → none ≡ name o f block (pos n) channel
-  name-long s l e h = rw (name-pointed, e, lt-leb l 1024 h, nameBy)
+  pub span-long : (s l : ℕ) → recordOf o f (block + n) channel ≡ some (s, l) → 1024 < l → none ≡ nameSpan o f block (pos n) channel
+  span-long s l e h = rw (span-pointed, e, lt-leb l 1024 h, kept)
 
-  pub name-given : (s l : ℕ) → recordOf o f (block + n) channel ≡ some (s, l) → l ≤ 1024 →
-      some (lossy (trimmed (take l (drop s f)))) ≡ name o f block (pos n) channel
-  name-given s l e h = rw (name-pointed, e, le-leb l 1024 h, nameBy)
+  pub span-given : (s l : ℕ) → recordOf o f (block + n) channel ≡ some (s, l) → l ≤ 1024 → some (s, l) ≡ nameSpan o f block (pos n) channel
+  span-given s l e h = rw (span-pointed, e, le-leb l 1024 h, kept)
+
+-- it lies in the file
+kept-by-test : (b : Bool) (r : ℕ × ℕ) (s n : ℕ) → _≡_ {A = Option (ℕ × ℕ)} (elim b [ true ↦ some r | false ↦ none ]) (some (s, n)) → some r ≡ some (s, n)
+kept-by-test true r s n e = e
+kept-by-test false r s n e = let z : _≡_ {A = ℕ} 0 1 = cc in absurd (omega arith)
+
+kept-is : (r : Option (ℕ × ℕ)) (s n : ℕ) → kept r ≡ some (s, n) → r ≡ some (s, n)
+kept-is none s n e = e
+kept-is (some r) s n e = kept-by-test (leb (r .1) 1024) r s n e
+
+pub kept-inside : (o : Order) (f : List ℕ) (channel place s n : ℕ) → kept (recordOf o f place channel) ≡ some (s, n) → s + n ≤ length f
+kept-inside o f channel place s n e = channel-inside o f channel place s n (kept-is (recordOf o f place channel) s n e)
+
+pub span-inside : (o : Order) (f : List ℕ) (block : ℕ) (names : ℤ) (channel s n : ℕ) → nameSpan o f block names channel ≡ some (s, n) → s + n ≤ length f
+unfolding nameSpan
+span-inside o f block (pos zero) channel s n e = let z : _≡_ {A = ℕ} 0 1 = cc in absurd (omega arith)
+span-inside o f block (pos (suc m)) channel s n e = kept-inside o f channel (block + suc m) s n e
+span-inside o f block (negsuc m) channel s n e = let z : _≡_ {A = ℕ} 0 1 = cc in absurd (omega arith)
 
 -- a place past the file's end has no record
 past-by : (channel : ℕ) (o : Order) (f : List ℕ) (place : ℕ) → length f < place + 4 → recordOf o f place channel ≡ none
@@ -222,8 +238,8 @@ past-by (suc channel) o f place h =
     let e : i32At o f place ≡ refused parse = rw (number-past 4 o f place h, i32At, bind) in
     sym (record-ends o f place (suc channel) (omega arith) (sym (record-unread o f place e)))
 
-pub name-past : (o : Order) (f : List ℕ) (block n channel : ℕ) → 0 < n → length f < block + n + 4 → none ≡ name o f block (pos n) channel
-name-past o f block n channel p h = name-none o f block n channel p (past-by channel o f (block + n) h)
+pub span-past : (o : Order) (f : List ℕ) (block n channel : ℕ) → 0 < n → length f < block + n + 4 → none ≡ nameSpan o f block (pos n) channel
+span-past o f block n channel p h = span-none o f block n channel p (past-by channel o f (block + n) h)
 
 -- ---- a channel
 

@@ -51,6 +51,17 @@ unfoldable pub recordOf : Order → List ℕ → ℕ → ℕ → Option (ℕ × 
 recordOf o f place zero = nameRecord o f place
 recordOf o f place (suc channel) = elim (nameRecord o f place) [ none ↦ none | some r ↦ recordOf o f (r .0 + r .1) channel ]
 
+-- "Length 1024 is kept; 1025 leaves that name missing and goes on. Length 0 is a present, empty name."
+abbrev pub kept : Option (ℕ × ℕ) → Option (ℕ × ℕ)
+kept none = none
+kept (some r) = elim (leb (r .1) 1024) [ true ↦ some r | false ↦ none ]
+
+-- Where the bytes of a channel's name stand: their start, and how many they are. "A pointer ≤ 0 means none of that sort."
+unfoldable pub nameSpan : Order → List ℕ → ℕ → ℤ → ℕ → Option (ℕ × ℕ)
+nameSpan o f block (pos zero) channel = none
+nameSpan o f block (pos (suc n)) channel = kept (recordOf o f (block + suc n) channel)
+nameSpan o f block (negsuc n) channel = none
+
 -- "Trailing zero bytes are dropped, inner ones kept."
 abbrev pub joined : ℕ → List ℕ → List ℕ
 joined zero [] = []
@@ -61,15 +72,13 @@ abbrev pub trimmed : List ℕ → List ℕ
 trimmed [] = []
 trimmed (b ∷ bs) = joined b (trimmed bs)
 
--- "Length 1024 is kept; 1025 leaves that name missing and goes on. Length 0 is a present, empty name."
-abbrev pub nameBy : List ℕ → Option (ℕ × ℕ) → Option (List ℕ)
-nameBy f none = none
-nameBy f (some r) = elim (leb (r .1) 1024) [ true ↦ some (lossy (trimmed (take (r .1) (drop (r .0) f)))) | false ↦ none ]
+-- The name: the text of the bytes that stand there.
+abbrev pub textIn : List ℕ → Option (ℕ × ℕ) → Option (List ℕ)
+textIn f none = none
+textIn f (some r) = some (lossy (trimmed (take (r .1) (drop (r .0) f))))
 
 unfoldable pub name : Order → List ℕ → ℕ → ℤ → ℕ → Option (List ℕ)
-name o f block (pos zero) channel = none
-name o f block (pos (suc n)) channel = nameBy f (recordOf o f (block + suc n) channel)
-name o f block (negsuc n) channel = none
+name o f block names channel = textIn f (nameSpan o f block names channel)
 
 -- ---- a channel
 
@@ -116,13 +125,13 @@ colorRanges f block (pos (suc n)) channel = colorAtRanges f (block + suc n + 4 *
 colorRanges f block (negsuc n) channel = nothing
 
 -- "each name given with its trailing zeros"
-abbrev pub nameByRanges : Option (ℕ × ℕ) → Ranges
-nameByRanges none = nothing
-nameByRanges (some r) = elim (leb (r .1) 1024) [ true ↦ at (r .0) (r .1) | false ↦ nothing ]
+abbrev pub textRanges : Option (ℕ × ℕ) → Ranges
+textRanges none = nothing
+textRanges (some r) = at (r .0) (r .1)
 
 -- "each length word reached that is wholly in the file"
 unfoldable pub recordRanges : Order → List ℕ → ℕ → ℕ → Ranges
-recordRanges o f place zero = both (inFile f place 4) (nameByRanges (nameRecord o f place))
+recordRanges o f place zero = both (inFile f place 4) (textRanges (kept (nameRecord o f place)))
 recordRanges o f place (suc channel) =
     both (inFile f place 4) (elim (nameRecord o f place) [ none ↦ nothing | some r ↦ recordRanges o f (r .0 + r .1) channel ])
 

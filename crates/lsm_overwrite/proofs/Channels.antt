@@ -14,10 +14,10 @@ use Rattle.lsm_format.specs.Ranges.{at, both, over, inFile, On, Agree}
 use Rattle.lsm_format.specs.Numbers.{Order, partAt, i32At}
 use Rattle.lsm_format.specs.Lent.{filled}
 use Rattle.lsm_format.specs.Utf8.{lossy}
-use Rattle.lsm_format.specs.Channels.{pointers, colorAt, color, recordBy, nameRecord, recordOf, trimmed, nameBy, name, Channel, channelBy, channelIn, textOf, lookup, lookupMemory, colorAtRanges, colorRanges, nameByRanges, recordRanges, nameRanges, channelRanges, channelsRanges}
+use Rattle.lsm_format.specs.Channels.{pointers, colorAt, color, recordBy, nameRecord, recordOf, kept, nameSpan, trimmed, textIn, name, Channel, channelBy, channelIn, textOf, lookup, lookupMemory, colorAtRanges, colorRanges, textRanges, recordRanges, nameRanges, channelRanges, channelsRanges}
 use Rattle.lsm_format.proofs.Accepting.{accepting-need}
 use Rattle.lsm_format.proofs.Numbers.{part-past, part-there}
-use Rattle.lsm_format.proofs.Channels.{color-past, names-end, names-go, channel-inside}
+use Rattle.lsm_format.proofs.Channels.{color-past, names-end, names-go, kept-inside}
 use Rattle.lsm_overwrite.proofs.TwoFiles.{in-file-at, part-law, part-listed, i32-law, i32-listed, bind-law, bind-accepting}
 
 -- a colour that is in the file
@@ -95,8 +95,8 @@ module _ (f g : List ℕ) (len : length g ≡ length f) where
   next-by : (r : Option (ℕ × ℕ)) (o : Order) (channel place : ℕ) → nameRecord o f place ≡ r → Agree f g (inFile f place 4) →
       Agree f g (recordRanges o f place (suc channel)) →
       ((next : ℕ) → Agree f g (recordRanges o f next channel) →
-      (recordOf o g next channel ≡ recordOf o f next channel) × Agree f g (nameByRanges (recordOf o f next channel))) →
-      (recordOf o g place (suc channel) ≡ recordOf o f place (suc channel)) × Agree f g (nameByRanges (recordOf o f place (suc channel)))
+      (recordOf o g next channel ≡ recordOf o f next channel) × Agree f g (textRanges (kept (recordOf o f next channel)))) →
+      (recordOf o g place (suc channel) ≡ recordOf o f place (suc channel)) × Agree f g (textRanges (kept (recordOf o f place (suc channel))))
   next-by nothing o channel place e w a next =
       let q : nameRecord o g place ≡ nothing = record-law o place w ∙ e in
       (names-end o g place channel q ∙ sym (names-end o f place channel e), rw (names-end o f place channel e) tt)
@@ -106,28 +106,22 @@ module _ (f g : List ℕ) (len : length g ≡ length f) where
       (names-go o g place channel r q ∙ n .0 ∙ sym (names-go o f place channel r e), rw (names-go o f place channel r e) (n .1))
 
   channel-record : (o : Order) (channel place : ℕ) → Agree f g (recordRanges o f place channel) →
-      (recordOf o g place channel ≡ recordOf o f place channel) × Agree f g (nameByRanges (recordOf o f place channel))
+      (recordOf o g place channel ≡ recordOf o f place channel) × Agree f g (textRanges (kept (recordOf o f place channel)))
   unfolding recordOf recordRanges
   channel-record o zero place a = (record-law o place (a .0), a .1)
   channel-record o (suc channel) place a = next-by (nameRecord o f place) o channel place refl (a .0) a (channel-record o channel)
 
   -- a name that is in the file
-  text-by : (b : Bool) (s n : ℕ) → leb n 1024 ≡ b → s + n ≤ length f → Agree f g (nameByRanges (some (s, n))) → nameBy g (some (s, n)) ≡ nameBy f (some (s, n))
-  text-by true s n t i a =
-      let h : On f g s n = rw (t, nameByRanges) at a in
-      rw (t, nameBy) (ap (λ (bs : List ℕ). some (lossy (trimmed bs))) (take-law s n h i))
-  text-by false s n t i a = rw (t, nameBy)
-
-  text-law : (r : Option (ℕ × ℕ)) → ((s n : ℕ) → r ≡ some (s, n) → s + n ≤ length f) → Agree f g (nameByRanges r) → nameBy g r ≡ nameBy f r
+  text-law : (r : Option (ℕ × ℕ)) → ((s n : ℕ) → r ≡ some (s, n) → s + n ≤ length f) → Agree f g (textRanges r) → textIn g r ≡ textIn f r
   text-law nothing i a = refl
-  text-law (some r) i a = text-by (leb (r .1) 1024) (r .0) (r .1) refl (i (r .0) (r .1) refl) a
+  text-law (some r) i a = ap (λ (bs : List ℕ). some (lossy (trimmed bs))) (take-law (r .0) (r .1) a (i (r .0) (r .1) refl))
 
   name-law : (o : Order) (block : ℕ) (z : ℤ) (channel : ℕ) → Agree f g (nameRanges o f block z channel) → name o g block z channel ≡ name o f block z channel
-  unfolding name nameRanges
+  unfolding name nameSpan nameRanges
   name-law o block (pos zero) channel a = refl
   name-law o block (pos (suc n)) channel a =
       let w = channel-record o channel (block + suc n) a in
-      rw (w .0) (text-law (recordOf o f (block + suc n) channel) (λ s l e. channel-inside o f channel (block + suc n) s l e) (w .1))
+      rw (w .0) (text-law (kept (recordOf o f (block + suc n) channel)) (kept-inside o f channel (block + suc n)) (w .1))
   name-law o block (negsuc n) channel a = refl
 
   -- ---- a channel and its lookup

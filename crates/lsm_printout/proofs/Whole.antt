@@ -10,7 +10,7 @@ use Rattle.lsm_format.specs.Answer.{Result, accepted, refused}
 use Rattle.lsm_format.specs.Open.{Opened, openFile}
 use Rattle.lsm_format.specs.Printout.{text, lines, most, tooLongLine, printout}
 use Rattle.lsm_reader.specs.Opening.{Told, toldOf}
-use Rattle.printout_text.specs.Put.{Listed}
+use Rattle.lsm_printout.specs.Put.{Listed}
 use Rattle.printout_room.proofs.Room.{printout-room}
 use Rattle.lsm_printout.specs.Told.{toldLines}
 

@@ -1,24 +1,29 @@
 // What is printed of a file.
+mod channels;
+mod lines;
+mod sizes;
+mod text;
+
+use crate::channels::put_channel_count;
+use crate::channels::put_channels;
+use crate::lines::put_dims;
+use crate::lines::put_kind;
+use crate::lines::put_refused;
+use crate::lines::put_scene_count;
+use crate::lines::put_scenes;
+use crate::sizes::put_notes;
+use crate::sizes::put_pixel;
+use crate::text::put_bytes;
 use libc::STDOUT_FILENO;
 use lsm_description::Description;
 use lsm_reader::open::OpenAnswer;
 use lsm_reader::open::open_file;
-use printout_channels::put_channel_count;
-use printout_channels::put_channels;
-use printout_lines::put_dims;
-use printout_lines::put_kind;
-use printout_lines::put_refused;
-use printout_lines::put_scene_count;
-use printout_lines::put_scenes;
-use printout_sizes::put_notes;
-use printout_sizes::put_pixel;
-use printout_text::put_bytes;
 ghost use mathlib.Core.Path.{_≡_};
 ghost use lib.ListN.{length};
 ghost use Rattle.lsm_format.specs.Printout.{text, headLines, acceptedLines, channelsOf, printout};
 ghost use Rattle.lsm_description.specs.Code.{descriptionOf};
 ghost use Rattle.lsm_reader.specs.Opening.{openedOf};
-ghost use Rattle.printout_text.specs.Put.{Put, Listed};
+ghost use Rattle.lsm_printout.specs.Put.{Put, Listed};
 ghost use Rattle.lsm_printout.specs.Told.{toldLines};
 
 // The longest file that is listed.
@@ -40,7 +45,7 @@ fn put_head(out: &mut [u8], at: usize, d: Description) -> usize
 }
 
 // The lines of a file that opens.
-pub fn put_accepted(out: &mut [u8], at: usize, buf: &[u8], d: Description) -> usize
+fn put_accepted(out: &mut [u8], at: usize, buf: &[u8], d: Description) -> usize
     ensures { λ r. ⌜ Put (text (acceptedLines (descriptionOf d) (channelsOf (now (buf .entry)) (descriptionOf d)))) at (now (out .entry)) (now (out .exit)) r ⌝ }
 {
     let dims = d.dims;
@@ -54,7 +59,7 @@ pub fn put_accepted(out: &mut [u8], at: usize, buf: &[u8], d: Description) -> us
 }
 
 // The lines of opening's answer.
-pub fn put_answer(out: &mut [u8], at: usize, buf: &[u8], answer: OpenAnswer) -> usize
+fn put_answer(out: &mut [u8], at: usize, buf: &[u8], answer: OpenAnswer) -> usize
     ensures { λ r. ⌜ Put (text (toldLines (now (buf .entry)) (openedOf answer))) at (now (out .entry)) (now (out .exit)) r ⌝ }
 {
     match answer {
@@ -68,7 +73,7 @@ pub fn put_answer(out: &mut [u8], at: usize, buf: &[u8], answer: OpenAnswer) -> 
 
 // Puts a file's printout at the front of `out` and answers its length. Where it has no room, as much of it as fits is put, and the
 // answer is one more than the length of `out`.
-pub fn list(buf: &[u8], out: &mut [u8]) -> usize
+fn list(buf: &[u8], out: &mut [u8]) -> usize
     ensures { λ r. ⌜ Listed (printout (now (buf .entry))) (now (out .entry)) (now (out .exit)) r ⌝ }
 {
     if MOST < buf.len() {

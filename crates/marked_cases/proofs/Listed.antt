@@ -24,7 +24,7 @@ use Rattle.lsm_format.specs.Picture.{total, place, stored, inside, span, bytes,
 use Rattle.lsm_format.specs.Listed.{stripsRanges, listed, spanRanges, sampleRanges, windowRanges, regionRanges, listedFor}
 use Rattle.lsm_overwrite.specs.Blind.{Overwritten, Held, Blind, BlindFor}
 use Rattle.lsm_overwrite.proofs.Blind.{blind, blind-rectangle, overwrite}
-use Rattle.marked_cases.proofs.Table.{G, G-opened}
+use Rattle.marked_cases.specs.Marked.{G, G-opened}
 
 -- ---- the list
 

@@ -12,7 +12,7 @@ use borrow.Author.Tests.{leb-true}
 use Rattle.lsm_format.specs.Answer.{Result, accepted, refused}
 use Rattle.lsm_format.specs.Numbers.{Order, i32At}
 use Rattle.lsm_format.specs.Utf8.{lossy}
-use Rattle.lsm_format.specs.Channels.{Channel, pointers, colorAt, color, recordBy, nameRecord, recordOf, trimmed, nameBy, name, channelBy, channelIn}
+use Rattle.lsm_format.specs.Channels.{Channel, pointers, colorAt, color, recordBy, nameRecord, recordOf, kept, nameSpan, trimmed, textIn, name, channelBy, channelIn}
 use Rattle.lsm_format.specs.Printout.{hexBytes, colorText, nameText, channelLine}
 use Rattle.printout_room.proofs.Lengths.{bytes-length, sums, sums-front, sums-none}
 use Rattle.printout_room.proofs.Texts.{text-length}
@@ -27,13 +27,13 @@ raw (some r) = r .1
 given-length : (f : List ℕ) (s n : ℕ) → length (hexBytes (lossy (trimmed (take n (drop s f))))) ≤ 6 * n
 given-length f s n = rw bytes-length (omega (arith, text-length (drop s f) n))
 
-by-test : (t : Bool) (x : List ℕ) (n : ℕ) → length (hexBytes x) ≤ 6 * n → length (nameText (elim t [ true ↦ some x | false ↦ none ])) ≤ 1 + 6 * n
-by-test true x n h = omega arith
-by-test false x n h = omega arith
+by-test : (t : Bool) (f : List ℕ) (r : ℕ × ℕ) → length (nameText (textIn f (elim t [ true ↦ some r | false ↦ none ]))) ≤ 1 + 6 * r .1
+by-test true f r = omega (arith, given-length f (r .0) (r .1))
+by-test false f r = omega arith
 
-name-length : (f : List ℕ) (r : Option (ℕ × ℕ)) → length (nameText (nameBy f r)) ≤ 1 + 6 * raw r
+name-length : (f : List ℕ) (r : Option (ℕ × ℕ)) → length (nameText (textIn f (kept r))) ≤ 1 + 6 * raw r
 name-length f none = omega arith
-name-length f (some r) = by-test (leb (r .1) 1024) _ (r .1) (given-length f (r .0) (r .1))
+name-length f (some r) = by-test (leb (r .1) 1024) f r
 
 -- ---- all names
 
@@ -96,7 +96,7 @@ nameless f x h = record { bytes = λ i. 0; line = λ i. both (x i) none 0 (h i) 
 
 by-pointer : (o : Order) (f : List ℕ) (block : ℕ) (colors names : ℤ) →
     Named f (λ i. record { color = color f block colors i; name = name o f block names i })
-unfolding name
+unfolding name nameSpan
 by-pointer o f block colors (pos zero) = nameless f (color f block colors) (color-length f block colors)
 by-pointer o f block colors (pos (suc n)) =
     record {

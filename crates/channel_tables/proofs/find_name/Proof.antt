@@ -1,11 +1,12 @@
--- `channel_tables::find_name` meets its contract. Assumes nothing.
+-- `channel_tables::find_name` meets its contract: at each `return` the tests that led there say which case of `nameSpan` holds.
+-- Assumes nothing.
 use native.Mathlib.Omega.{arith}
 use mathlib.Core.Path.{sym, ap, _∙_}
 use borrow.Author.Needs.{needs}
 use Rattle.lsm_format.proofs.Words.{told-value, told-overflow, word-some, word-none}
 use Rattle.channel_tables.specs.Parts.{spanOf}
-use Rattle.channel_tables.proofs.Signed.{pointed-told}
-use Rattle.channel_tables.proofs.Naming.{named-nowhere, named-past, named-none, named-long, named-given}
+use Rattle.channel_tables.proofs.Signed.{pointed-told, no-names}
+use Rattle.channel_tables.proofs.Naming.{named-past, named-none, named-long, named-given}
 use Rattle.channel_tables.proofs.find_name.Statement.{statement}
 use Rattle.channel_tables.proofs.find_name.Tie as tie
 
@@ -21,7 +22,7 @@ enum-told c = search needs
 returns : tie.Need-returns
 returns c =
     let s = c .before .before .before .before in
-    named-nowhere _ _ _ _ _ (pointed-told _ (s .fits .names) (c .before .before .table-of .ensures) (c .enum-told .given .1))
+    no-names _ _ _ _ _ (pointed-told _ (s .fits .names) (c .before .before .table-of .ensures) (c .enum-told .given .1))
 
 checked-add-requires : tie.Need-checked-add-requires
 checked-add-requires c κs = search needs

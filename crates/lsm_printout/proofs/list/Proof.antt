@@ -1,7 +1,7 @@
 -- `lsm_printout::list` meets its contract. Assumes nothing.
 use Rattle.lsm_format.specs.Printout.{tooLongLine}
-use Rattle.printout_text.proofs.Puts.{same, listed}
-use Rattle.printout_text.proofs.Lines.{line}
+use Rattle.lsm_printout.proofs.Puts.{same, listed}
+use Rattle.lsm_printout.proofs.TextLines.{line}
 use Rattle.lsm_printout.proofs.Whole.{printout-long, printout-told}
 use borrow.Author.Needs.{needs}
 use Rattle.lsm_printout.proofs.list.Statement.{statement}

@@ -1,6 +1,6 @@
 -- `lsm_printout::put_accepted` meets its contract. Assumes nothing.
 use Rattle.lsm_format.specs.Printout.{acceptedLines}
-use Rattle.printout_text.proofs.Lines.{joined}
+use Rattle.lsm_printout.proofs.TextLines.{joined}
 use borrow.Author.Needs.{needs}
 use Rattle.lsm_printout.proofs.put_accepted.Statement.{statement}
 use Rattle.lsm_printout.proofs.put_accepted.Tie as tie

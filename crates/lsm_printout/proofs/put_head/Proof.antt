@@ -1,6 +1,6 @@
 -- `lsm_printout::put_head` meets its contract. Assumes nothing.
 use Rattle.lsm_format.specs.Printout.{acceptedLine, headLines}
-use Rattle.printout_text.proofs.Lines.{line, joined}
+use Rattle.lsm_printout.proofs.TextLines.{line, joined}
 use borrow.Author.Needs.{needs}
 use Rattle.lsm_printout.proofs.put_head.Statement.{statement}
 use Rattle.lsm_printout.proofs.put_head.Tie as tie

@@ -1,0 +1,47 @@
+-- `lsm_printout::channels::put_channel` meets its contract. Assumes nothing.
+use mathlib.Core.Path.{refl}
+use Rattle.lsm_printout.proofs.Names.{looked-found, looked-refused}
+use borrow.Author.Needs.{needs}
+use Rattle.lsm_printout.proofs.channels.put_channel.Statement.{statement}
+use Rattle.lsm_printout.proofs.channels.put_channel.Tie as tie
+
+slice-aggregate-channel : tie.Need-slice-aggregate-channel
+slice-aggregate-channel c = search needs
+
+channel-requires : tie.Need-channel-requires
+channel-requires c κs = search needs
+
+enum-known-m : tie.Need-enum-known-m
+enum-known-m c = search needs
+
+slice-aggregate-put-meta : tie.Need-slice-aggregate-put-meta
+slice-aggregate-put-meta c = search needs
+
+put-meta-requires : tie.Need-put-meta-requires
+put-meta-requires c κs = search needs
+
+enum-told : tie.Need-enum-told
+enum-told c = search needs
+
+same-length : tie.Need-same-length
+same-length c = search needs
+
+returns : tie.Need-returns
+returns c = rw (looked-found (c .before .before .before .before .before .before .before .before .before .before .before .before .before .pre) refl (c .before .before .before .before .before .before .before .before .before .channel .ensures) (c .before .before .before .before .before .before .m .given .1)) at (c .before .before .put-meta .ensures)
+
+returns-2 : tie.Need-returns-2
+returns-2 c = absurd (looked-refused (c .before .before .before .before .before .before .before .pre) refl (c .before .before .before .channel .ensures) (c .enum-told .given .1))
+
+pub put-channel-spec : {M : Type 1} → statement M
+put-channel-spec =
+    tie.close
+    (tie.spec
+    slice-aggregate-channel
+    channel-requires
+    enum-known-m
+    slice-aggregate-put-meta
+    put-meta-requires
+    enum-told
+    same-length
+    returns
+    returns-2)

@@ -1,0 +1,37 @@
+-- `lsm_printout::lines::put_scene_count` meets its contract. Assumes nothing.
+use Rattle.lsm_printout.proofs.Puts.{then}
+use Rattle.lsm_printout.proofs.TextLines.{line}
+use Rattle.lsm_format.specs.Printout.{scenesLine}
+use borrow.Author.Needs.{needs}
+use Rattle.lsm_printout.proofs.lines.put_scene_count.Statement.{statement}
+use Rattle.lsm_printout.proofs.lines.put_scene_count.Tie as tie
+
+slice-aggregate-put-bytes : tie.Need-slice-aggregate-put-bytes
+slice-aggregate-put-bytes c = search needs
+
+put-bytes-requires : tie.Need-put-bytes-requires
+put-bytes-requires c κs = search needs
+
+put-spaced-requires : tie.Need-put-spaced-requires
+put-spaced-requires c κs = search needs
+
+put-byte-requires : tie.Need-put-byte-requires
+put-byte-requires c κs = search needs
+
+same-length : tie.Need-same-length
+same-length c = search needs
+
+returns : tie.Need-returns
+unfolding scenesLine
+returns c = line _ (then (then (c .before .before .before .before .before .before .before .before .before .before .put-bytes .ensures) (c .before .before .before .before .before .before .put-spaced .ensures)) (c .before .before .put-byte .ensures))
+
+pub put-scene-count-spec : {M : Type 1} → statement M
+put-scene-count-spec =
+    tie.close
+    (tie.spec
+    slice-aggregate-put-bytes
+    put-bytes-requires
+    put-spaced-requires
+    put-byte-requires
+    same-length
+    returns)

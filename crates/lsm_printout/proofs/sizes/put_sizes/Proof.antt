@@ -1,0 +1,62 @@
+-- `lsm_printout::sizes::put_sizes` meets its contract. Assumes nothing.
+use Rattle.lsm_printout.proofs.Puts.{then}
+use borrow.Author.Needs.{needs}
+use Rattle.lsm_printout.proofs.sizes.put_sizes.Statement.{statement}
+use Rattle.lsm_printout.proofs.sizes.put_sizes.Tie as tie
+
+enum-told : tie.Need-enum-told
+enum-told c = search needs
+
+slice-aggregate-put-bytes : tie.Need-slice-aggregate-put-bytes
+slice-aggregate-put-bytes c = search needs
+
+put-bytes-requires : tie.Need-put-bytes-requires
+put-bytes-requires c κs = search needs
+
+enum-known-k : tie.Need-enum-known-k
+enum-known-k c = search needs
+
+put-size-requires : tie.Need-put-size-requires
+put-size-requires c κs = search needs
+
+put-byte-requires : tie.Need-put-byte-requires
+put-byte-requires c κs = search needs
+
+put-size-requires-2 : tie.Need-put-size-requires-2
+put-size-requires-2 c κs = search needs
+
+put-byte-requires-2 : tie.Need-put-byte-requires-2
+put-byte-requires-2 c κs = search needs
+
+put-step-requires : tie.Need-put-step-requires
+put-step-requires c κs = search needs
+
+same-length : tie.Need-same-length
+same-length c = search needs
+
+returns : tie.Need-returns
+returns c = rw (c .before .before .before .before .before .enum-told .given .1) (c .before .before .put-bytes .ensures)
+
+same-length-2 : tie.Need-same-length-2
+same-length-2 c = search needs
+
+returns-2 : tie.Need-returns-2
+returns-2 c = rw (c .before .before .before .before .before .before .before .before .before .before .before .before .before .before .before .before .before .before .before .before .before .k .given .1) (then (then (then (then (c .before .before .before .before .before .before .before .before .before .before .before .before .before .before .before .before .before .before .put-size .ensures) (c .before .before .before .before .before .before .before .before .before .before .before .before .before .before .put-byte .ensures)) (c .before .before .before .before .before .before .before .before .before .before .put-size2 .ensures)) (c .before .before .before .before .before .before .put-byte2 .ensures)) (c .before .before .put-step .ensures))
+
+pub put-sizes-spec : {M : Type 1} → statement M
+put-sizes-spec =
+    tie.close
+    (tie.spec
+    enum-told
+    slice-aggregate-put-bytes
+    put-bytes-requires
+    enum-known-k
+    put-size-requires
+    put-byte-requires
+    put-size-requires-2
+    put-byte-requires-2
+    put-step-requires
+    same-length
+    returns
+    same-length-2
+    returns-2)

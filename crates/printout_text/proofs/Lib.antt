@@ -1,3 +1,0 @@
-pub mod Puts
-pub mod Numbers
-pub mod Lines
