@@ -181,8 +181,7 @@ fn opened(reader: LsmReader) -> Opened {
 pub const CHANNELS: usize = 4096;
 
 // The original's reader over any file, with a description and a strip table that are handed in. `None` where it can't be made so:
-// no strips in a page, no scene, more than 2^31 - 1 scenes, a file that can't be mapped. Nor where a depth above the pages of a scene
-// leads past the whole-row test. The words must be a description.
+// no strips in a page, no scene, more than 2^31 - 1 scenes, a file that can't be mapped. The words must be a description.
 pub fn handed(memory: &mut Memory, file: &[u8], words: &[usize; 17], table: &[usize]) -> Option<Opened> {
     let scenes = i32::try_from(words[7]).ok().filter(|&n| 0 < n)?;
     let layout = LsmLayout::new(scenes, 1, words[8]).ok()?;
@@ -217,10 +216,6 @@ pub fn handed(memory: &mut Memory, file: &[u8], words: &[usize; 17], table: &[us
         }
         _ => false,
     };
-    // A page behind those that the test ran over: what its strips hold is then known to nobody.
-    if native_region && words[8] < dims.z {
-        return None;
-    }
     memory.put(file);
     let mmap = map_file(&memory.path).ok()?;
     let found = match dims.c {

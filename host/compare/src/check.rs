@@ -1,10 +1,11 @@
 // Both readers on one file: every answer, every number, every word and byte of lent memory.
 use crate::lent::Lent;
 use crate::make;
+use crate::past;
 use crate::port::Port;
 use crate::random::Random;
 use crate::walk::walk;
-use original::probe::{self, Memory, Opened, PANIC};
+use original::probe::{self, Memory, Opened, Picture, Refused, PANIC};
 use std::collections::BTreeMap;
 use std::time::{Duration, Instant};
 
@@ -26,6 +27,17 @@ impl Count {
     }
 }
 
+// Rectangles on pages past those of the whole-row test, by what document 01 says of them.
+#[derive(Default, Clone)]
+pub struct Past {
+    pub regions: u64,
+    pub accepted: u64,
+    // of the accepted ones, those that the original refuses
+    pub refused_by_original: u64,
+    // refused with 2, since a sample isn't there
+    pub missing: u64,
+}
+
 #[derive(Default, Clone)]
 pub struct Tally {
     pub files: u64,
@@ -39,6 +51,7 @@ pub struct Tally {
     pub handed: u64,
     pub no_description: u64,
     pub not_handed: u64,
+    pub past: Past,
     pub not_reserved: u64,
     pub circles: u64,
     pub circles_left: u64,
@@ -127,6 +140,42 @@ fn change(r: &mut Random, words: &mut [usize; 17], len: usize) {
             usize::MAX / 2,
         ]),
     };
+}
+
+// The depth set below the number of Z, or to 0, with the pages of the table kept and more of them behind: copies whose strips are
+// shorter, longer, cut elsewhere or outside the file. So the whole-row test runs over fewer pages than can be asked for.
+fn shallow(r: &mut Random, words: &mut [usize; 17], table: &mut Vec<usize>, len: usize) {
+    let page = 2 * words[3] * words[9];
+    let pages = table.len() / page;
+    words[8] = r.of(&[0, 0, words[8], words[8] / 2, words[8] - 1]);
+    if pages == 0 {
+        return;
+    }
+    table.truncate(pages * page);
+    for _ in 0..r.below(4) {
+        let from = r.below(pages) * page;
+        let mut copy = table[from..from + page].to_vec();
+        for _ in 0..r.below(3) {
+            let at = 2 * r.below(page / 2);
+            let (offset, n) = (copy[at], copy[at + 1]);
+            match r.below(8) {
+                0 => copy[at + 1] = n.saturating_sub(1),
+                1 => copy[at + 1] = r.of(&[0, n / 2, n.saturating_sub(words[6])]),
+                2 | 3 => copy[at + 1] = r.of(&[n + 1, n + words[6], len.saturating_sub(offset)]),
+                4 => copy[at] = r.below(len),
+                5 => copy[at] = r.of(&[len.saturating_sub(n), len.saturating_sub(n) + 1, len, usize::MAX, usize::MAX - n]),
+                _ => {
+                    // bytes go over to another strip, so that rows and samples are split
+                    let (to, k) = (2 * r.below(page / 2), r.below(4).min(n));
+                    copy[at + 1] -= k;
+                    copy[to + 1] += k;
+                }
+            }
+        }
+        table.extend(copy);
+        words[4] += 1;
+    }
+    words[4] += r.chance(10) as usize;
 }
 
 // A length to lend: what is needed, or more.
@@ -284,10 +333,16 @@ impl Both {
         let mut words = o.words;
         let mut table = o.table.clone();
         table.truncate(400);
-        for _ in 0..1 + r.below(2) {
-            change(r, &mut words, other.len());
+        let shallower = r.chance(40);
+        if shallower {
+            shallow(r, &mut words, &mut table, other.len());
         }
-        if r.chance(40) {
+        if !shallower || r.chance(30) {
+            for _ in 0..1 + r.below(2) {
+                change(r, &mut words, other.len());
+            }
+        }
+        if r.chance(if shallower { 10 } else { 40 }) {
             match r.below(3) {
                 0 => table.truncate(r.below(table.len() + 1)),
                 1 => table.extend((0..1 + r.below(6)).map(|i| [12, 2][i % 2])),
@@ -488,6 +543,13 @@ impl Both {
             Some(rect) => o.region(at, rect),
         };
         self.tally.original += start.elapsed();
+        let found = match rect {
+            Some(rect) if o.whole_rows() && past::decides(&o.words, at, rect) => match self.past(file, o, at, rect, found) {
+                Ok(wanted) => wanted,
+                Err(d) => return Some(d),
+            },
+            _ => found,
+        };
         match found {
             Err(refused) if refused.row[0] == PANIC => Some(format!("the original panicked: {at:?} {rect:?}")),
             Err(refused) => {
@@ -507,6 +569,70 @@ impl Both {
                 d
             }
         }
+    }
+
+    // What is wanted of a rectangle on a page past those of the whole-row test. It may differ from the original's answer only where the
+    // original refuses with 2, and is an acceptance there.
+    fn past(
+        &mut self,
+        file: &[u8],
+        o: &Opened,
+        at: [usize; 4],
+        rect: [usize; 4],
+        found: Result<Picture, Refused>,
+    ) -> Result<Result<Picture, Refused>, String> {
+        let reckoned = past::region(&o.words, &o.table, file, at, rect);
+        let tally = &mut self.tally.past;
+        tally.regions += 1;
+        tally.missing += matches!(reckoned, past::Found::Missing) as u64;
+        let wanted = match reckoned.answer() {
+            Ok(bytes) => {
+                tally.accepted += 1;
+                tally.refused_by_original += found.is_err() as u64;
+                Ok(Picture { height: rect[3], width: rect[2], bytes })
+            }
+            Err(row) => Err(Refused { row, text: "past the tested pages".to_string() }),
+        };
+        let agree = match (&wanted, &found) {
+            (Ok(a), Ok(b)) => a.bytes == b.bytes && (a.height, a.width) == (b.height, b.width),
+            (Err(a), Err(b)) => a.row == b.row,
+            (Ok(_), Err(b)) => b.row[0] == 2,
+            (Err(_), Ok(_)) => false,
+        };
+        let said = |f: &Result<Picture, Refused>| match f {
+            Ok(p) => format!("accepted {:x?}", p.bytes),
+            Err(r) => format!("{:?} {}", r.row, r.text),
+        };
+        if self.tell {
+            println!("past the tested pages: host {}, original {}", said(&wanted), said(&found));
+        }
+        if agree {
+            Ok(wanted)
+        } else {
+            Err(format!("region {at:?} {rect:?}: the host says {}, the original {}", said(&wanted), said(&found)))
+        }
+    }
+
+    // The inputs whose answers are settled: the host must say them, and so must the port.
+    pub fn settled(&mut self) -> Option<String> {
+        for case in past::settled() {
+            let at = [0, 0, 0, case.z];
+            let asked = format!("words {:x?}, table {:x?}, z {}, {:?}", case.words, case.table, case.z, case.rect);
+            let said = past::region(&case.words, &case.table, &case.file, at, case.rect).answer();
+            if !past::decides(&case.words, at, case.rect) || said != case.wanted {
+                return Some(format!("settled, {asked}: the host says {said:?}"));
+            }
+            let mut beside = std::mem::take(&mut self.beside);
+            let made = probe::handed(&mut beside, &case.file, &case.words, &case.table).expect("a reader");
+            assert!(made.whole_rows());
+            let d = self.picture(&case.file, &made, at, Some(case.rect), &mut Random::of_case(0, 0, 0));
+            drop(made);
+            self.beside = beside;
+            if let Some(d) = d {
+                return Some(format!("settled, {asked}: {d}"));
+            }
+        }
+        None
     }
 
     #[allow(clippy::too_many_arguments)]

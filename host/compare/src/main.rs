@@ -4,6 +4,7 @@ mod check;
 mod large;
 mod lent;
 mod make;
+mod past;
 mod pictures;
 mod port;
 mod random;
@@ -47,7 +48,7 @@ const USAGE: &str = "options:
   --no-large     without the large files
   --no-pictures  without planes and regions
   --keep N       go on until N differences were shown (1)
-  --fault N      a port with a fault, 1 to 22, to see that it is noticed
+  --fault N      a port with a fault, 1 to 24, to see that it is noticed
   --bench        times of both instead of a comparison
   --hostile      times of opening hostile files
   --case N       only this case: its bytes and both answers
@@ -205,6 +206,11 @@ fn report(t: &Tally, o: &Options, port: &str, took: Duration, differences: u64) 
         "handed in: {} descriptions and tables, {} words that are no description, {} that the original can't be given",
         t.handed, t.no_description, t.not_handed
     );
+    let past = &t.past;
+    println!(
+        "past the tested pages: {} regions, of them {} accepted, {} refused with 2 for a missing sample; {} accepted against the original",
+        past.regions, past.accepted, past.missing, past.refused_by_original
+    );
     println!(
         "not compared: {} circles beyond those asked ({} asked), {} pictures that the original would reserve first",
         t.circles_left, t.circles, t.not_reserved
@@ -255,6 +261,12 @@ fn main() {
     }
     let start = Instant::now();
     let mut differences = 0;
+    if both.pictures {
+        if let Some(d) = both.settled() {
+            differences += 1;
+            println!("DIFFERENCE: {d}");
+        }
+    }
     if o.large {
         both.circles = 3;
         for (i, (name, f)) in large::files().into_iter().enumerate() {

@@ -1,5 +1,5 @@
 // The reader that is compared with the original, at the level of the C interface's words.
-use crate::standin::StandIn;
+use crate::standin::{Past, StandIn};
 
 pub trait Port {
     fn name(&self) -> &'static str;
@@ -115,9 +115,11 @@ impl Port for Library {
 pub struct Faulty {
     port: Box<dyn Port>,
     fault: usize,
+    // answers for rectangles where they are at fault as a whole
+    beside: StandIn,
 }
 
-// 1 to 10 are faults of opening, 11 to 15 of channel lookup, 16 to 22 of pictures.
+// 1 to 10 are faults of opening, 11 to 15 of channel lookup, 16 to 24 of pictures.
 impl Port for Faulty {
     fn name(&self) -> &'static str {
         "faulty"
@@ -194,6 +196,16 @@ impl Port for Faulty {
         out: &mut [u8],
         answer: &mut [usize; 5],
     ) -> usize {
+        self.beside.past = match self.fault {
+            // on a page past those of the whole-row test, refuses where the page's own strips don't hold whole rows
+            23 => Past::AsOriginal,
+            // there, accepts where a sample is missing
+            24 => Past::Blank,
+            _ => Past::Right,
+        };
+        if self.beside.past != Past::Right && rect.is_some() {
+            return self.beside.picture(file, description, table, at, rect, out, answer);
+        }
         let n = self.port.picture(file, description, table, at, rect, out, answer);
         match self.fault {
             // writes one byte behind the samples
@@ -226,6 +238,6 @@ fn sound() -> Box<dyn Port> {
 pub fn port(fault: usize) -> Box<dyn Port> {
     match fault {
         0 => sound(),
-        fault => Box::new(Faulty { port: sound(), fault }),
+        fault => Box::new(Faulty { port: sound(), fault, beside: StandIn::default() }),
     }
 }

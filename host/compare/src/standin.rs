@@ -1,10 +1,23 @@
 // A stand-in for the library: it answers with the words of the C interface what a copy of the original answers. With the original
 // itself it shows that the comparison is sound; with an edited copy, that a broken rule is noticed.
 use crate::walk::walk;
-use other::probe::{self, Memory, Opened, Refused};
+use other::probe::{self, Memory, Opened, Picture, Refused};
+
+// What it says of a rectangle on a page past those of the whole-row test: what document 01 says (past.rs quotes it), or what a faulty
+// port would.
+#[derive(Default, Clone, Copy, PartialEq)]
+pub enum Past {
+    #[default]
+    Right,
+    // refuses where the page's own strips don't hold whole rows, as the original
+    AsOriginal,
+    // a sample that isn't there is 0
+    Blank,
+}
 
 #[derive(Default)]
 pub struct StandIn {
+    pub past: Past,
     memory: Memory,
     file: Vec<u8>,
     found: Option<Result<Opened, Refused>>,
@@ -28,6 +41,37 @@ fn say(answer: &mut [usize], words: &[usize]) -> usize {
     answer.fill(0);
     answer[..words.len()].copy_from_slice(words);
     answer[0]
+}
+
+// The samples of a rectangle that the original refuses with 2 on a page past those of the whole-row test. It joins the channel's strips
+// and picks the samples out of them. `None` where the refusal stands.
+fn joined(file: &[u8], o: &Opened, at: [usize; 4], rect: [usize; 4], blank: bool) -> Option<Vec<u8>> {
+    let [scene, _, c, z] = at;
+    let [x, y, w, h] = rect;
+    let [kind, high, wide, scenes, depth, strips] = [1, 5, 6, 7, 8, 9].map(|i| o.words[i]);
+    let inside = x.checked_add(w)? <= wide && y.checked_add(h)? <= high;
+    let page = scene.checked_mul(depth)?.checked_add(z)?;
+    if !o.whole_rows() || !inside || page < scenes.checked_mul(depth)? {
+        return None;
+    }
+    let mut bytes = Vec::new();
+    for strip in o.table.chunks(2).skip((page * o.words[3] + c) * strips).take(strips) {
+        bytes.extend(file.get(strip[0]..strip[0].checked_add(strip[1])?)?);
+    }
+    let sample = [1, 2, 2, 4][kind];
+    let mut out = Vec::new();
+    for row in y..y + h {
+        for column in x..x + w {
+            let first = row.checked_mul(wide).and_then(|n| n.checked_add(column)?.checked_mul(sample));
+            match first.and_then(|k| bytes.get(k..k.checked_add(sample)?)) {
+                Some(found) if o.words[0] == 1 => out.extend(found.iter().rev()),
+                Some(found) => out.extend(found),
+                None if blank => out.resize(out.len() + sample, 0),
+                None => return None,
+            }
+        }
+    }
+    Some(out)
 }
 
 impl StandIn {
@@ -121,12 +165,19 @@ impl StandIn {
         if !describes(description) {
             return say(answer, &[2]);
         }
+        let past = self.past;
         let Some(o) = self.reader(file, description, Some(table)) else {
             return say(answer, &[SILENT]);
         };
         let found = match rect {
             None => o.plane(at),
-            Some(rect) => o.region(at, rect),
+            Some(rect) => o.region(at, rect).or_else(|refused| match refused.row[0] {
+                2 if past != Past::AsOriginal => match joined(file, o, at, rect, past == Past::Blank) {
+                    Some(bytes) => Ok(Picture { height: rect[3], width: rect[2], bytes }),
+                    None => Err(refused),
+                },
+                _ => Err(refused),
+            }),
         };
         match found {
             Err(r) => say(answer, &r.row),
