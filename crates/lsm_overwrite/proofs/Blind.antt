@@ -106,7 +106,7 @@ module _ (f g : List ℕ) (len : length g ≡ length f) (opens : Agree f g (open
         rw (same f g len opens (a .opened) (held-read f a) b)
         (memory-listed f g (a .opened .description .order) (a .opened .description .channelBlock) len (a .opened .description .dims .c) channel w buffer)
 
--- "overwriting any other byte of an accepted file changes no answer of opening, plane, region or channel lookup"
+-- "answers alike before and after": opening, and every call of plane, region or channel lookup
 pub blind : SpareBytes
 unfolding listed
 blind f g o =

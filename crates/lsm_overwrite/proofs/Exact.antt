@@ -12,14 +12,14 @@ use mathlib.Core.List.{List, [], _∷_, _++_}
 use lib.Dec.{leb, ltb, eqb}
 use lib.ListN.{length, getD, take, drop}
 use borrow.Author.Tests.{lt-ltb, le-leb, leb-true, leb-false, eqb-true}
-use Rattle.lsm_format.specs.Answer.{Result, accepted, refused, bind, need, given}
+use Rattle.lsm_format.specs.Answer.{Result, accepted, refused, bind, need, given, decode, oversizedAllocation, sceneOutOfRange, outOfRange}
 use Rattle.lsm_format.specs.Words.{word}
 use Rattle.lsm_format.specs.Scenes.{pageOf}
 use Rattle.lsm_format.specs.Sizes.{Kind, sampleSize, pictureLimit, pictureBytes, pictureSize, unlimitedSize}
-use Rattle.lsm_format.specs.Rectangle.{Dims, Rect, coordinates, rectangle, isEmpty}
+use Rattle.lsm_format.specs.Rectangle.{Dims, Rect, coordinates, within, rectangle, isEmpty}
 use Rattle.lsm_format.specs.Lent.{lend}
 use Rattle.lsm_format.specs.Open.{Description}
-use Rattle.lsm_format.specs.Picture.{Samples, offsetOf, countOf, total, stored, inside, span, bytes, picture, each, toLittle, hasPage, channelStrips, coordinate, planeStrips, channelPicture, samplesIn, wholePicture, plane, rowBytes, windowEnd, into}
+use Rattle.lsm_format.specs.Picture.{Samples, offsetOf, countOf, total, stored, inside, span, bytes, picture, each, toLittle, hasPage, channelStrips, coordinate, planeStrips, channelPicture, samplesIn, wholePicture, plane, rowBytes, wholeRows, windowEnd, windowStrips, regionBy, regionStrips, filledRegion, region, into}
 use Rattle.lsm_format.proofs.Lent.{lend-room, lend-short}
 use Rattle.lsm_format.proofs.Scenes.{page-some}
 use Rattle.lsm_format.proofs.Picture.{held, bytes-add, bytes-moved, bytes-length, bytes-at, bytes-run, place-in, place-past, inside-head, coordinate-channel, rectangle-within, channel-page, channel-room}
@@ -202,67 +202,100 @@ each-plane d t f scene time c z a e =
 
 -- ---- accepted, or refused with 7 only
 
--- No refusal of this rule is 7.
-unfoldable Unshort : {A : Type 0} → Result A → Type 0
-Unshort (accepted a) = Unit {0}
-Unshort (refused row) = (needed : ℕ) → row ≡ 7 ∷ needed ∷ [] → ⊥
+-- Whatever this rule refuses with has a number from 1 to 6.
+abbrev pub Low : List ℕ → Type 0
+Low row = (0 < getD row 0 0) × (getD row 0 0 < 7)
 
-unshort-bind : {A B : Type 0} (m : Result A) (k : A → Result B) → Unshort m → ((a : A) → Unshort (k a)) → Unshort (bind m k)
-unfolding Unshort bind
-unshort-bind (accepted a) k u h = h a
-unshort-bind (refused row) k u h = u
+unfoldable pub Lower : {A : Type 0} → Result A → Type 0
+Lower (accepted a) = Unit {0}
+Lower (refused row) = Low row
 
-unshort-need : (number : ℕ) (values : List ℕ) (b : Bool) → (number ≡ 7 → ⊥) → Unshort (need (number ∷ values) b)
-unfolding Unshort
-unshort-need number values true h = tt
-unshort-need number values false h = λ needed e. h cc
+pub lower-bind : {A B : Type 0} (m : Result A) (k : A → Result B) → Lower m → ((a : A) → Lower (k a)) → Lower (bind m k)
+unfolding Lower bind
+lower-bind (accepted a) k u h = h a
+lower-bind (refused row) k u h = u
 
-unshort-given : {A : Type 0} (number : ℕ) (values : List ℕ) (o : Option A) → (number ≡ 7 → ⊥) → Unshort (given (number ∷ values) o)
-unfolding Unshort
-unshort-given number values (some a) h = tt
-unshort-given number values none h = λ needed e. h cc
+lower-need : (row : List ℕ) (b : Bool) → Low row → Lower (need row b)
+unfolding Lower
+lower-need row true h = tt
+lower-need row false h = h
 
-coordinate-unshort : (d : Description) (scene time c z : ℕ) → Unshort (coordinate d scene time c z)
+lower-given : {A : Type 0} (row : List ℕ) (o : Option A) → Low row → Lower (given row o)
+unfolding Lower
+lower-given row (some a) h = tt
+lower-given row none h = h
+
+coordinate-lower : (d : Description) (scene time c z : ℕ) → Lower (coordinate d scene time c z)
 unfolding coordinate coordinates
-coordinate-unshort d scene time c z =
-    unshort-bind _ _ (unshort-need 5 (scene ∷ d .layout .scenes ∷ []) (ltb scene (d .layout .scenes)) (λ e. omega arith))
-    (λ _. unshort-need 6 (scene ∷ time ∷ c ∷ z ∷ []) (ltb time (d .dims .t) && ltb c (d .dims .c) && ltb z (d .dims .z)) (λ e. omega arith))
+coordinate-lower d scene time c z =
+    lower-bind _ _ (lower-need (sceneOutOfRange scene (d .layout .scenes)) (ltb scene (d .layout .scenes)) (omega arith))
+    (λ _. lower-need (outOfRange scene time c z) (ltb time (d .dims .t) && ltb c (d .dims .c) && ltb z (d .dims .z)) (omega arith))
 
-size-unshort : (w h : ℕ) (k : Kind) → Unshort (pictureSize w h k)
-unfolding pictureSize unlimitedSize Unshort
-size-unshort w h k =
-    unshort-bind _ _ (unshort-given 4 _ (word (pictureBytes w h k)) (λ e. omega arith))
-    (λ n. unshort-bind _ _ (unshort-need 4 _ (leb n pictureLimit) (λ e. omega arith)) (λ _. tt))
+size-lower : (w h : ℕ) (k : Kind) → Lower (pictureSize w h k)
+unfolding pictureSize unlimitedSize Lower
+size-lower w h k =
+    lower-bind _ _ (lower-given (oversizedAllocation (2 ^ 64 - 1) pictureLimit) (word (pictureBytes w h k)) (omega arith))
+    (λ n. lower-bind _ _ (lower-need (oversizedAllocation n pictureLimit) (leb n pictureLimit) (omega arith)) (λ _. tt))
 
-channel-unshort : (d : Description) (words scene time c z : ℕ) → Unshort (channelStrips d words scene time c z)
-unfolding channelStrips Unshort
-channel-unshort d words scene time c z =
-    unshort-bind _ _ (unshort-given 6 _ (pageOf (d .layout) scene z) (λ e. omega arith))
-    (λ page. unshort-bind _ _ (unshort-need 6 _ (hasPage d words page) (λ e. omega arith)) (λ _. tt))
+channel-lower : (d : Description) (words scene time c z : ℕ) → Lower (channelStrips d words scene time c z)
+unfolding channelStrips Lower
+channel-lower d words scene time c z =
+    lower-bind _ _ (lower-given (outOfRange scene time c z) (pageOf (d .layout) scene z) (omega arith))
+    (λ page. lower-bind _ _ (lower-need (outOfRange scene time c z) (hasPage d words page) (omega arith)) (λ _. tt))
 
-strips-unshort : (d : Description) (t : List ℕ) (len scene time c z : ℕ) → Unshort (planeStrips d t len scene time c z)
-unfolding planeStrips Unshort
-strips-unshort d t len scene time c z =
-    unshort-bind _ _ (size-unshort (d .dims .x) (d .dims .y) (d .kind))
-    (λ size.
-    unshort-bind _ _ (channel-unshort d (length t) scene time c z)
-    (λ first.
-    unshort-bind _ _ (unshort-need 2 [] (inside t len first (d .stripsPerChannel)) (λ e. omega arith))
-    (λ _. unshort-bind _ _ (unshort-need 2 [] (eqb (total t first (d .stripsPerChannel)) size) (λ e. omega arith)) (λ _. tt))))
+module _ (d : Description) (t : List ℕ) (len scene time c z : ℕ) where
+  -- the strips within the file, then one more test of them
+  judged-lower : (first : ℕ) (b : Bool)
+      → Lower (bind (need decode (inside t len first (d .stripsPerChannel))) (λ _. bind (need decode b) (λ _. accepted first)))
+  unfolding Lower
+  judged-lower first b =
+      lower-bind _ _ (lower-need decode (inside t len first (d .stripsPerChannel)) (omega arith))
+      (λ _. lower-bind _ _ (lower-need decode b (omega arith)) (λ _. tt))
 
-plane-unshort : (d : Description) (t f : List ℕ) (scene time c z : ℕ) → Unshort (plane d t f scene time c z)
-unfolding plane Unshort
-plane-unshort d t f scene time c z =
-    unshort-bind _ _ (coordinate-unshort d scene time c z) (λ _. unshort-bind _ _ (strips-unshort d t (length f) scene time c z) (λ first. tt))
+  strips-lower : Lower (planeStrips d t len scene time c z)
+  unfolding planeStrips
+  strips-lower =
+      lower-bind _ _ (size-lower (d .dims .x) (d .dims .y) (d .kind))
+      (λ size.
+      lower-bind _ _ (channel-lower d (length t) scene time c z)
+      (λ first. judged-lower first (eqb (total t first (d .stripsPerChannel)) size)))
+
+  region-strips-lower : (r : Rect) (b : Bool) → Lower (regionBy b d t len scene time c z r)
+  unfolding windowStrips
+  region-strips-lower r true =
+      lower-bind _ _ (size-lower (r .w) (r .h) (d .kind))
+      (λ _.
+      lower-bind _ _ (channel-lower d (length t) scene time c z)
+      (λ first. judged-lower first (leb (windowEnd d r) (total t first (d .stripsPerChannel)))))
+  region-strips-lower r false = strips-lower
+
+module _ (d : Description) (t f : List ℕ) (scene time c z : ℕ) where
+  pub plane-lower : Lower (plane d t f scene time c z)
+  unfolding plane Lower
+  plane-lower = lower-bind _ _ (coordinate-lower d scene time c z) (λ _. lower-bind _ _ (strips-lower d t (length f) scene time c z) (λ first. tt))
+
+  filled-lower : (r : Rect) (b : Bool) → Lower (filledRegion b d t f scene time c z r)
+  unfolding regionStrips Lower
+  filled-lower r true = tt
+  filled-lower r false = lower-bind _ _ (region-strips-lower d t (length f) scene time c z r (wholeRows d t)) (λ first. tt)
+
+  pub region-lower : (r : Rect) → Lower (region d t f scene time c z r)
+  unfolding region rectangle
+  region-lower r =
+      lower-bind _ _ (coordinate-lower d scene time c z)
+      (λ _. lower-bind _ _ (lower-need decode (within (r .x) (r .w) (d .dims .x) && within (r .y) (r .h) (d .dims .y)) (omega arith)) (λ _. filled-lower r (isEmpty r)))
 
 -- so 7 is the buffer's
-accepted-then : {C : Type 0} (m : Result Samples) (room : ℕ) → Unshort m → Accepted (into m room) → ((a : Samples) → m ≡ accepted a → C) → C
-unfolding into bind Unshort
+accepted-then : {C : Type 0} (m : Result Samples) (room : ℕ) → Lower m → Accepted (into m room) → ((a : Samples) → m ≡ accepted a → C) → C
+unfolding into bind Lower
 accepted-then (accepted a) room u e go = go a refl
 accepted-then (refused row) room u (inl e) go = let p = e .1 in let z : _≡_ {A = ℕ} 0 1 = cc in absurd (omega arith)
-accepted-then (refused row) room u (inr e) go = let p = e .1 in absurd (u (e .0) cc)
+accepted-then (refused row) room u (inr e) go =
+    let p = e .1 in
+    let q : row ≡ 7 ∷ e .0 ∷ [] = cc in
+    absurd (omega (arith, u .1, ap (λ (l : List ℕ). getD l 0 0) q))
 
-accepted-into : (m : Result Samples) (room : ℕ) (a : Samples) → m ≡ accepted a → Accepted (into m room)
+pub accepted-into : (m : Result Samples) (room : ℕ) (a : Samples) → m ≡ accepted a → Accepted (into m room)
 unfolding into bind
 accepted-into m room a e = rw e (by (leb (length (a .bytes)) room) refl)
   where
@@ -277,5 +310,5 @@ inside-accepted d r i =
 
 pub every-inside : EveryInside
 every-inside d t f scene time c z r room room′ p i =
-    accepted-then (plane d t f scene time c z) room (plane-unshort d t f scene time c z) p
+    accepted-then (plane d t f scene time c z) room (plane-lower d t f scene time c z) p
     (λ s e. rectangle-accepted d t f scene time c z r s tt e (inside-accepted (d .dims) r i) (λ a k. accepted-into _ room′ a k))

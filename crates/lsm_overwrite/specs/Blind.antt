@@ -1,6 +1,9 @@
--- Demand 3, "Blind to spare bytes: document 01's list says which bytes are read; overwriting any other byte of an accepted file changes
--- no answer of opening, plane, region or channel lookup. One statement about two files, proved." The statement is `SpareBytes` at the
--- end, and `SpareSamples` for one rectangle; proofs/Blind.antt proves both. The list is `listed` of lsm_format/specs/Listed.antt.
+-- Demand 3, its first half: "Take an accepted file, and whatever anyone writes over bytes of it that document 01 doesn't list as read, its
+-- length unchanged. Opening, and then, with what it gave, every call of plane, region or channel lookup, whatever its other arguments, answers
+-- alike before and after, lent lengths being equal: the same description, strip table, directory count, pictures, rectangles, colours, names,
+-- and refusals with their numbers. For one rectangle, the pixel bytes listed are only its own samples." The statement is `SpareBytes` at the
+-- end, and `SpareSamples` for one rectangle; proofs/Blind.antt proves both. The list is `listed` of lsm_format/specs/Listed.antt. The demand's
+-- second half is Exact.antt. Other words in quotation marks are document 01's.
 use Prim.Native.Nat.{ℕ}
 use mathlib.Core.Path.{_≡_}
 use mathlib.Core.List.{List}
@@ -13,8 +16,8 @@ use Rattle.lsm_format.specs.Open.{Opened, openFile, openMemory}
 use Rattle.lsm_format.specs.Picture.{Samples, plane, region, into, bufferBy}
 use Rattle.lsm_format.specs.Listed.{listed, listedFor}
 
--- "overwriting any other byte": g is f with bytes overwritten, any number of them, that are not on the list. "File length counts as
--- read."
+-- "whatever anyone writes over bytes of it that document 01 doesn't list as read, its length unchanged": g is f so overwritten, in any number
+-- of bytes. "File length counts as read."
 pub record Overwritten (list : Ranges) (f g : List ℕ) : Type 0 where
   pub sameLength : length g ≡ length f
   pub sameListed : (p : ℕ) → Inside p (flat list) → getD g p 0 ≡ getD f p 0
@@ -61,7 +64,7 @@ pub record RegionAlike (f g : List ℕ) (scene t c z : ℕ) (r : Rect) : Type 0 
 
 -- ---- every call
 
--- "changes no answer of opening, plane, region or channel lookup", whatever a call's other arguments
+-- "Opening, and then, with what it gave, every call of plane, region or channel lookup, whatever its other arguments, answers alike"
 pub record Blind (f g : List ℕ) : Type 0 where
   pub opening : OpensAlike f g
   pub planeAnswer : (a : Held f) (b : Held g) (scene t c z room : ℕ) →

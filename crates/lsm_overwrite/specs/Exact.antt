@@ -15,7 +15,7 @@ use Rattle.lsm_format.specs.Picture.{Samples, offsetOf, countOf, firstStrip, to
 
 -- ---- "the picture defined under 2", by what the caller names
 
--- "Page of a picture: scene × depth + z"; t is 0 wherever a picture is accepted, since T is 1.
+-- "Page of a picture: scene × depth + z", whatever t is: a file that opens has one time point.
 abbrev pub pageNumber : Description → ℕ → ℕ → ℕ → ℕ
 pageNumber d scene t z = scene * d .layout .depth + z
 
@@ -73,8 +73,8 @@ pub record Delivered (d : Description) (table f : List ℕ) (scene t c z : ℕ) 
 -- ---- accepted, inside
 
 -- "In demand 3, accepted means not refused, or refused with 7 only"
-abbrev pub Accepted : Result Samples → Type 0
-Accepted m = ((a : Samples) × (m ≡ accepted a)) ⊎ ((needed : ℕ) × (m ≡ refused (7 ∷ needed ∷ [])))
+abbrev pub Accepted : {A : Type 0} → Result A → Type 0
+Accepted {A} m = ((a : A) × (m ≡ accepted a)) ⊎ ((needed : ℕ) × (m ≡ refused (7 ∷ needed ∷ [])))
 
 -- "inside means that no end overflows or passes the picture"
 pub record Inside (d : Dims) (r : Rect) : Type 0 where
