@@ -1,14 +1,14 @@
 -- Cases that no file can show: "Description, table and file may come from different places. Plane and region answer from what is given."
--- Each row stands beside the words of document 01 that decide it, in the order of its checks; the last are the inputs that
+-- Each row stands beside the words of document 01 that decide it, in the order of its checks; among the last are the inputs that
 -- docs/DIFFERENCES.md names.
-use Prim.Native.Nat.{ℕ, _+_, _-_, _*_, _^_}
+use Prim.Native.Nat.{ℕ, _+_, _-_, _^_}
 use mathlib.Core.Path.{_≡_, refl}
 use mathlib.Core.Bool.{true, false}
 use mathlib.Core.List.{List, [], _∷_}
 use mathlib.Core.Option.{none, some}
 use Rattle.lsm_format.specs.Answer.{Result, accepted, refused, bind}
 use Rattle.lsm_format.specs.Words.{word}
-use Rattle.lsm_format.specs.Numbers.{Order, little, big, partAt}
+use Rattle.lsm_format.specs.Numbers.{little, big, partAt}
 use Rattle.lsm_format.specs.Sizes.{Kind, u8, u16, f32, pictureSize, unlimitedSize}
 use Rattle.lsm_format.specs.Rectangle.{Rect, coordinates, rectangle}
 use Rattle.lsm_format.specs.Scenes.{pageOf}
@@ -181,13 +181,45 @@ lookups :
 unfolding lookup lend channelIn pointers partAt bind
 lookups = (refl, refl, refl, refl)
 
--- ---- the inputs of docs/DIFFERENCES.md
+-- ---- a page past those of the whole-row test
 
-differences :
-    -- a channel's rows that pass 64 bits: the whole-row test says no
-    (region (single u8 (2 ^ 33) 1 2) (0 ∷ (2 ^ 64 - 1) ∷ 0 ∷ (2 ^ 33 + 1) ∷ []) four 0 0 0 0 (rect 0 0 1 1) ≡ refused (4 ∷ 8589934592 ∷ 4294967296 ∷ []))
-    -- a page past scenes × depth whose own strips don't hold whole rows: all of plane's checks
-    × (region (described u8 1 2 1 2 1 1 1) (0 ∷ 2 ∷ 0 ∷ 3 ∷ []) four 0 0 0 1 (rect 0 0 2 1) ≡ refused (2 ∷ []))
-    × (region (described u8 1 2 1 (2 ^ 33) 1 1 1) (0 ∷ 2 ^ 33 ∷ 0 ∷ 3 ∷ []) four 0 0 0 1 (rect 0 0 1 1) ≡ refused (4 ∷ 8589934592 ∷ 4294967296 ∷ []))
+past-the-test :
+    -- "the rectangle's size, the page, and all the channel's strips within the file" decide, although this page's strip holds three bytes in rows
+    -- of two, and plane refuses it
+    (region (described u8 1 2 1 2 1 1 1) (0 ∷ 2 ∷ 0 ∷ 3 ∷ []) four 0 0 0 1 (rect 0 0 2 1) ≡ samples 1 2 (10 ∷ 11 ∷ []))
+    × (plane (described u8 1 2 1 2 1 1 1) (0 ∷ 2 ∷ 0 ∷ 3 ∷ []) four 0 0 0 1 ≡ refused (2 ∷ []))
+    -- the size first, although there is no such page; then the page; then the strips, and not the oversized picture
+    × (region (described u8 1 2 1 (2 ^ 33) 1 1 1) (0 ∷ 2 ^ 33 ∷ []) four 0 0 0 1 (rect 0 0 (2 ^ 33) 1) ≡ refused (4 ∷ 2 ^ 33 ∷ 4294967296 ∷ []))
+    × (region (described u8 1 2 1 (2 ^ 33) 1 1 1) (0 ∷ 2 ^ 33 ∷ []) four 0 0 0 1 (rect 0 0 1 1) ≡ refused (6 ∷ 0 ∷ 0 ∷ 0 ∷ 1 ∷ []))
+    × (region (described u8 1 2 1 (2 ^ 33) 1 1 1) (0 ∷ 2 ^ 33 ∷ 5 ∷ 3 ∷ []) four 0 0 0 1 (rect 0 0 1 1) ≡ refused (2 ∷ []))
+    × (region (described u8 1 2 1 (2 ^ 33) 1 1 1) (0 ∷ 2 ^ 33 ∷ 0 ∷ 3 ∷ []) four 0 0 0 1 (rect 2 0 1 1) ≡ samples 1 1 (12 ∷ []))
+    -- a test over no page says yes
+    × (region (described u8 1 1 (2 ^ 64 - 1) 5 1 0 3) (0 ∷ 5 ∷ 0 ∷ 5 ∷ 9 ∷ 5 ∷ []) four 0 0 0 0 (rect 0 0 1 1) ≡ refused (2 ∷ []))
+    × (region (described u8 1 1 (2 ^ 64 - 1) 5 1 0 2) (0 ∷ 4 ∷ 1 ∷ 3 ∷ []) four 0 0 0 0 (rect 0 1 2 1) ≡ samples 1 2 (12 ∷ 13 ∷ []))
+    -- where the test says no, plane's checks decide there too
+    × (region (described u8 1 2 1 2 1 1 1) (0 ∷ 3 ∷ 0 ∷ 3 ∷ []) four 0 0 0 1 (rect 0 0 2 1) ≡ refused (2 ∷ []))
+    -- z past the depth of a scene may still be a page of the test
+    × (region (described u8 1 2 1 2 2 1 1) (0 ∷ 2 ∷ 0 ∷ 3 ∷ []) four 0 0 0 1 (rect 0 0 2 1) ≡ refused (2 ∷ []))
+unfolding plane region coordinate coordinates rectangle planeStrips regionStrips windowStrips wholeRows wholePages wholeChannels wholeChannel wholeStrips rowsIn pictureSize unlimitedSize word channelStrips pageOf inside total samplesIn channelPicture window span picture bytes stored place each bind
+past-the-test = (refl, refl, refl, refl, refl, refl, refl, refl, refl, refl)
+
+-- "an outcome that they leave free is named": a sample that is not in the joined strips
+missing-sample :
+    -- the least input: one sample, a strip of no bytes
+    (region (described u8 1 1 1 1 1 0 1) (0 ∷ 0 ∷ []) four 0 0 0 0 (rect 0 0 1 1) ≡ refused (2 ∷ []))
+    -- three bytes of a picture of two by two: the last sample is missing, and the others are there
+    × (region (described u8 1 2 2 2 1 1 1) (0 ∷ 4 ∷ 1 ∷ 3 ∷ []) four 0 0 0 1 (rect 1 1 1 1) ≡ refused (2 ∷ []))
+    × (region (described u8 1 2 2 2 1 1 1) (0 ∷ 4 ∷ 1 ∷ 3 ∷ []) four 0 0 0 1 (rect 0 1 1 1) ≡ samples 1 1 (13 ∷ []))
+    × (region (described u8 1 2 2 2 1 1 1) (0 ∷ 4 ∷ 1 ∷ 3 ∷ []) four 0 0 0 1 (rect 1 0 1 1) ≡ samples 1 1 (12 ∷ []))
+    -- half a sample isn't one
+    × (region (described u16 1 1 1 2 1 0 1) (0 ∷ 3 ∷ []) four 0 0 0 0 (rect 1 0 1 1) ≡ refused (2 ∷ []))
 unfolding region coordinate coordinates rectangle planeStrips regionStrips windowStrips wholeRows wholePages wholeChannels wholeChannel wholeStrips rowsIn pictureSize unlimitedSize word channelStrips pageOf inside total samplesIn channelPicture window span picture bytes stored place each bind
-differences = (refl, refl, refl)
+missing-sample = (refl, refl, refl, refl, refl)
+
+-- ---- another input of docs/DIFFERENCES.md
+
+rows-past-64-bits :
+    -- a channel's rows that pass 64 bits: the whole-row test says no
+    region (single u8 (2 ^ 33) 1 2) (0 ∷ (2 ^ 64 - 1) ∷ 0 ∷ (2 ^ 33 + 1) ∷ []) four 0 0 0 0 (rect 0 0 1 1) ≡ refused (4 ∷ 8589934592 ∷ 4294967296 ∷ [])
+unfolding region coordinate coordinates rectangle planeStrips regionStrips windowStrips wholeRows wholePages wholeChannels wholeChannel wholeStrips rowsIn pictureSize unlimitedSize word channelStrips pageOf inside total samplesIn channelPicture window span picture bytes stored place each bind
+rows-past-64-bits = refl

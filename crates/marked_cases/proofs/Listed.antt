@@ -49,16 +49,16 @@ all-lists = refl
 
 -- "of the strips only the places of its samples in the channel's joined strips": "byte 117", and not 116
 second-lists : flat (listedFor G 0 0 0 0 second) ≡ G-open ++ (117, 1) ∷ []
-unfolding listedFor regionRanges windowRanges sampleRanges spanRanges place coordinate coordinates rectangle regionStrips wholeRows wholePages wholeChannels wholeChannel wholeStrips rowsIn windowStrips pictureSize unlimitedSize channelStrips pageOf inside openRanges read describeWalk agreement layoutFor describe czInfo extents voxels channelBlock shots layout scenes pagesExpected word walkRanges chainRanges directoryRanges entriesRanges entryRanges czRanges over inFile flat tiffHeader walk chain join directory entries entry scalar scalarPlace array arrayPlace numbers valuePlace typeSize integerSize header i32At signed32 numberAt partAt bind
+unfolding listedFor regionRanges windowRanges sampleRanges spanRanges place coordinate coordinates rectangle regionStrips wholeRows wholePages wholeChannels wholeChannel wholeStrips rowsIn windowStrips total pictureSize unlimitedSize channelStrips pageOf inside openRanges read describeWalk agreement layoutFor describe czInfo extents voxels channelBlock shots layout scenes pagesExpected word walkRanges chainRanges directoryRanges entriesRanges entryRanges czRanges over inFile flat tiffHeader walk chain join directory entries entry scalar scalarPlace array arrayPlace numbers valuePlace typeSize integerSize header i32At signed32 numberAt partAt bind
 second-lists = refl
 
 -- "none if it isn't accepted": a rectangle that passes the picture; and none of an empty one
 passing-lists : flat (listedFor G 0 0 0 0 (record { x = 1; y = 0; w = 2; h = 1 })) ≡ G-open
-unfolding listedFor regionRanges windowRanges sampleRanges spanRanges place coordinate coordinates rectangle regionStrips wholeRows wholePages wholeChannels wholeChannel wholeStrips rowsIn windowStrips pictureSize unlimitedSize channelStrips pageOf inside openRanges read describeWalk agreement layoutFor describe czInfo extents voxels channelBlock shots layout scenes pagesExpected word walkRanges chainRanges directoryRanges entriesRanges entryRanges czRanges over inFile flat tiffHeader walk chain join directory entries entry scalar scalarPlace array arrayPlace numbers valuePlace typeSize integerSize header i32At signed32 numberAt partAt bind
+unfolding listedFor regionRanges windowRanges sampleRanges spanRanges place coordinate coordinates rectangle regionStrips wholeRows wholePages wholeChannels wholeChannel wholeStrips rowsIn windowStrips total pictureSize unlimitedSize channelStrips pageOf inside openRanges read describeWalk agreement layoutFor describe czInfo extents voxels channelBlock shots layout scenes pagesExpected word walkRanges chainRanges directoryRanges entriesRanges entryRanges czRanges over inFile flat tiffHeader walk chain join directory entries entry scalar scalarPlace array arrayPlace numbers valuePlace typeSize integerSize header i32At signed32 numberAt partAt bind
 passing-lists = refl
 
 empty-lists : flat (listedFor G 0 0 0 0 (record { x = 1; y = 0; w = 0; h = 1 })) ≡ G-open
-unfolding listedFor regionRanges windowRanges sampleRanges spanRanges place coordinate coordinates rectangle regionStrips wholeRows wholePages wholeChannels wholeChannel wholeStrips rowsIn windowStrips pictureSize unlimitedSize channelStrips pageOf inside openRanges read describeWalk agreement layoutFor describe czInfo extents voxels channelBlock shots layout scenes pagesExpected word walkRanges chainRanges directoryRanges entriesRanges entryRanges czRanges over inFile flat tiffHeader walk chain join directory entries entry scalar scalarPlace array arrayPlace numbers valuePlace typeSize integerSize header i32At signed32 numberAt partAt bind
+unfolding listedFor regionRanges windowRanges sampleRanges spanRanges place coordinate coordinates rectangle regionStrips wholeRows wholePages wholeChannels wholeChannel wholeStrips rowsIn windowStrips total pictureSize unlimitedSize channelStrips pageOf inside openRanges read describeWalk agreement layoutFor describe czInfo extents voxels channelBlock shots layout scenes pagesExpected word walkRanges chainRanges directoryRanges entriesRanges entryRanges czRanges over inFile flat tiffHeader walk chain join directory entries entry scalar scalarPlace array arrayPlace numbers valuePlace typeSize integerSize header i32At signed32 numberAt partAt bind
 empty-lists = refl
 
 -- ---- on the list or not
