@@ -241,17 +241,21 @@ pub no-bytes : (l : List ℕ) → length l ≡ 0 → l ≡ []
 no-bytes [] e = refl
 no-bytes (b ∷ l) e = absurd (omega arith)
 
--- an empty rectangle has no samples
-window-empty : (p : ℕ → ℕ → List ℕ) (s : ℕ) (r : Rect) → Even p s r → isEmpty r ≡ true → window p r ≡ []
-window-empty p s r e h = no-bytes (window p r) (window-length p s r e ∙ none (eqb (r .w) 0) refl h)
+-- an empty rectangle has no columns or no rows, and so no samples
+pub empty-then : {C : Type 0} (r : Rect) → isEmpty r ≡ true → (r .w ≡ 0 → C) → (r .h ≡ 0 → C) → C
+empty-then {C} r e narrow flat = by (eqb (r .w) 0) refl e
   where
-    none : (b : Bool) → eqb (r .w) 0 ≡ b → (b || eqb (r .h) 0) ≡ true → r .h * (r .w * s) ≡ 0
-    none true w h =
-        let z : r .w ≡ 0 = eqb-true _ _ w in
-        ap (λ (k : ℕ). r .h * (k * s)) z ∙ ap (λ (k : ℕ). r .h * k) (zero-mul s) ∙ mul-zero (r .h)
-    none false w h =
-        let z : r .h ≡ 0 = eqb-true _ _ h in
-        ap (λ (k : ℕ). k * (r .w * s)) z ∙ zero-mul (r .w * s)
+    by : (b : Bool) → eqb (r .w) 0 ≡ b → (b || eqb (r .h) 0) ≡ true → C
+    by true w h = narrow (eqb-true _ _ w)
+    by false w h = flat (eqb-true _ _ h)
+
+pub empty-size : (r : Rect) (s : ℕ) → isEmpty r ≡ true → r .h * (r .w * s) ≡ 0
+empty-size r s e =
+    empty-then r e (λ z. ap (λ (k : ℕ). r .h * (k * s)) z ∙ ap (λ (k : ℕ). r .h * k) (zero-mul s) ∙ mul-zero (r .h))
+    (λ z. ap (λ (k : ℕ). k * (r .w * s)) z ∙ zero-mul (r .w * s))
+
+window-empty : (p : ℕ → ℕ → List ℕ) (s : ℕ) (r : Rect) → Even p s r → isEmpty r ≡ true → window p r ≡ []
+window-empty p s r e h = no-bytes (window p r) (window-length p s r e ∙ empty-size r s h)
 
 -- one that isn't empty has columns and rows
 pub not-empty : (r : Rect) → isEmpty r ≡ false → (0 < r .w) × (0 < r .h)

@@ -2,16 +2,16 @@
 -- lies in `exact-filled`: what region's checks tell of the strips (`RegionAccepted`) says that every sample of the rectangle is in them, and
 -- there the bytes by their places are those of the joined strips. Assumes nothing.
 use Prim.Native.Nat.{ℕ, zero, suc, _+_, _-_, _*_, _^_, _≤_, _<_, min}
-use native.Mathlib.Nat.{zero-add, add-zero, add-mul, suc-mul, mul-assoc, mul-zero, zero-mul, mul-le-mul-right, not-suc-le-zero}
+use native.Mathlib.Nat.{zero-add, add-zero, add-mul, suc-mul, mul-assoc, mul-le-mul-right, not-suc-le-zero}
 use native.Mathlib.Omega.{arith}
 use mathlib.Core.Path.{_≡_, refl, sym, ap, ap₂, _∙_}
-use mathlib.Core.Bool.{Bool, true, false, _&&_, _||_}
+use mathlib.Core.Bool.{Bool, true, false, _&&_}
 use mathlib.Core.Logic.{inl, inr}
 use mathlib.Core.Option.{Option, none, some}
 use mathlib.Core.List.{List, [], _∷_, _++_}
 use lib.Dec.{leb, ltb, eqb}
 use lib.ListN.{length, getD, take, drop}
-use borrow.Author.Tests.{lt-ltb, le-leb, leb-true, leb-false, eqb-true}
+use borrow.Author.Tests.{lt-ltb, le-leb, leb-true, leb-false}
 use Rattle.lsm_format.specs.Answer.{Result, accepted, refused, bind, need, given, decode, oversizedAllocation, sceneOutOfRange, outOfRange}
 use Rattle.lsm_format.specs.Words.{word}
 use Rattle.lsm_format.specs.Scenes.{pageOf}
@@ -19,11 +19,11 @@ use Rattle.lsm_format.specs.Sizes.{Kind, sampleSize, pictureLimit, pictureBytes
 use Rattle.lsm_format.specs.Rectangle.{Dims, Rect, coordinates, within, rectangle, isEmpty}
 use Rattle.lsm_format.specs.Lent.{lend}
 use Rattle.lsm_format.specs.Open.{Description}
-use Rattle.lsm_format.specs.Picture.{Samples, offsetOf, countOf, total, stored, inside, span, bytes, picture, each, toLittle, hasPage, channelStrips, coordinate, planeStrips, channelPicture, samplesIn, wholePicture, plane, rowBytes, wholeRows, windowEnd, windowStrips, regionBy, regionStrips, filledRegion, region, into}
+use Rattle.lsm_format.specs.Picture.{Samples, offsetOf, countOf, total, stored, inside, span, bytes, picture, each, toLittle, hasPage, firstStrip, channelStrips, coordinate, planeStrips, channelPicture, samplesIn, wholePicture, plane, rowBytes, wholeRows, windowEnd, windowStrips, regionBy, regionStrips, filledRegion, region, into}
 use Rattle.lsm_format.proofs.Lent.{lend-room, lend-short}
 use Rattle.lsm_format.proofs.Scenes.{page-some}
 use Rattle.lsm_format.proofs.Picture.{held, bytes-add, bytes-moved, bytes-length, bytes-at, bytes-run, place-in, place-past, inside-head, coordinate-channel, rectangle-within, channel-page, channel-room}
-use Rattle.lsm_format.proofs.Region.{RegionAccepted, accepted-by-plane, region-accepted, samples-at, samples-length, size-samples, plane-then, region-then, rectangle-accepted}
+use Rattle.lsm_format.proofs.Region.{RegionAccepted, accepted-by-plane, region-accepted, samples-at, samples-length, size-samples, empty-then, empty-size, plane-then, region-then, rectangle-accepted}
 use Rattle.lsm_overwrite.specs.Exact.{channelFirst, joined, joinedStrips, sampleOf, pictureSample, There, Exact, Accepted, Inside, EachRectangle, EachPlane, EveryInside}
 
 -- ---- the joined strips
@@ -97,10 +97,7 @@ sample-end d r row column u v =
 first-named : (d : Description) (words scene t c z first : ℕ) → channelStrips d words scene t c z ≡ accepted first → first ≡ channelFirst d scene t c z
 first-named d words scene t c z first e =
     channel-page d words scene t c z first e
-    (λ page p q. sym q ∙ ap (λ (k : ℕ). channelFirst′ k) (page-some (d .layout) scene z page p .1))
-  where
-    channelFirst′ : ℕ → ℕ
-    channelFirst′ page = page * (d .dims .c * d .stripsPerChannel) + c * d .stripsPerChannel
+    (λ page p q. sym q ∙ ap (λ (k : ℕ). firstStrip d k c) (page-some (d .layout) scene z page p .1))
 
 -- A rectangle that has samples, of strips that are accepted for it.
 module _ (d : Description) (t f : List ℕ) (scene time c z first : ℕ) (r : Rect) (y : RegionAccepted d t (length f) scene time c z first r) (i j : ℕ) (hi : i < r .h)
@@ -148,20 +145,7 @@ exact-filled d t f scene time c z first r h y =
 
 -- an empty rectangle has no sample
 none-there : {C : Type 0} (r : Rect) (i j : ℕ) → isEmpty r ≡ true → i < r .h → j < r .w → C
-none-there {C} r i j e hi hj = by (eqb (r .w) 0) (eqb (r .h) 0) refl refl e
-  where
-    by : (a b : Bool) → eqb (r .w) 0 ≡ a → eqb (r .h) 0 ≡ b → (a || b) ≡ true → C
-    by true b p q e = let z : r .w ≡ 0 = eqb-true (r .w) 0 p in absurd (omega arith)
-    by false true p q e = let z : r .h ≡ 0 = eqb-true (r .h) 0 q in absurd (omega arith)
-    by false false p q e = let z : _≡_ {A = ℕ} 0 1 = cc in absurd (omega arith)
-
-none-size : (r : Rect) (s : ℕ) → isEmpty r ≡ true → 0 ≡ r .h * r .w * s
-none-size r s e = by (eqb (r .w) 0) (eqb (r .h) 0) refl refl e
-  where
-    by : (a b : Bool) → eqb (r .w) 0 ≡ a → eqb (r .h) 0 ≡ b → (a || b) ≡ true → 0 ≡ r .h * r .w * s
-    by true b p q e = let z : r .w ≡ 0 = eqb-true (r .w) 0 p in rw (z, mul-zero, zero-mul)
-    by false true p q e = let z : r .h ≡ 0 = eqb-true (r .h) 0 q in rw (z, zero-mul, zero-mul)
-    by false false p q e = let z : _≡_ {A = ℕ} 0 1 = cc in absurd (omega arith)
+none-there r i j e hi hj = empty-then r e (λ z. absurd (omega arith)) (λ z. absurd (omega arith))
 
 exact-none : (d : Description) (t f : List ℕ) (scene time c z : ℕ) (r : Rect) → isEmpty r ≡ true → Exact d t f scene time c z r (r .h) (r .w) []
 exact-none d t f scene time c z r e =
@@ -170,7 +154,7 @@ exact-none d t f scene time c z r e =
       wide = refl;
       sample = λ i j hi hj. none-there r i j e hi hj;
       there = λ i j hi hj. none-there r i j e hi hj;
-      size = none-size r (sampleSize (d .kind)) e;
+      size = sym (mul-assoc (r .h) (r .w) (sampleSize (d .kind)) ∙ empty-size r (sampleSize (d .kind)) e);
     }
 
 -- an answer is one by its three parts

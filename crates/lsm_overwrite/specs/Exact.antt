@@ -64,9 +64,10 @@ pub record Exact (d : Description) (table f : List ℕ) (scene t c z : ℕ) (r :
   -- "and nothing more"
   pub size : length bytes ≡ r .h * r .w * sampleSize (d .kind)
 
--- The same in the caller's buffer: `bytes` bytes at its front, which have room there ("a buffer long enough"); past them it is as it was.
+-- The same in the caller's buffer: so many bytes at its front, which have room there ("a buffer long enough"); past them it is as it was.
 pub record Delivered (d : Description) (table f : List ℕ) (scene t c z : ℕ) (r : Rect) (before after : List ℕ) (rows columns bytes : ℕ) : Type 0 where
   pub exact : Exact d table f scene t c z r rows columns (take bytes after)
+  pub count : bytes ≡ r .h * r .w * sampleSize (d .kind)
   pub long : bytes ≤ length before
   pub past : drop bytes after ≡ drop bytes before
 

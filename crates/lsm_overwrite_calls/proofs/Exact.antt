@@ -77,6 +77,7 @@ module _ (d : Description) (t f : List ℕ) (scene time c z : ℕ) (r : Rect) wh
       let e = m ∙ filled-room (x .bytes) before h in
       record {
         exact = rw (e, take-at (x .bytes) (drop (length (x .bytes)) before) (length (x .bytes)) refl) exact;
+        count = exact .size;
         long = h;
         past = rw (e, drop-at (x .bytes) (drop (length (x .bytes)) before) (length (x .bytes)) refl);
       }
