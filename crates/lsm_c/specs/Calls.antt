@@ -8,7 +8,7 @@ use Rattle.lsm_format.specs.Open.{openFile, openMemory}
 use Rattle.lsm_format.specs.Channels.{Channel, lookup, lookupMemory}
 use Rattle.lsm_channel_colors.specs.Code.{Seen, seen}
 use Rattle.lsm_format.specs.Picture.{Samples, plane, region, into, bufferBy}
-use Rattle.lsm_format.specs.Rectangle.{Rect}
+use Rattle.lsm_format.specs.Rectangle.{Rect, Coordinate}
 use Rattle.lsm_region.specs.Code.{shapeOf}
 use Rattle.lsm_reader.specs.Opening.{toldOf}
 use Rattle.description_words.specs.Words.{describedBy}
@@ -52,11 +52,11 @@ pub record LookedUp (f w : List ℕ) (channel : ℕ) (lent name answer : List �
 -- ---- pictures
 
 -- The picture, or a rectangle of it, with the description that these words are; no description is refused before anything else.
-unfoldable pub planeBy : List ℕ → List ℕ → List ℕ → ℕ → ℕ → ℕ → ℕ → Result Samples
-planeBy words table f scene t c z = bind (describedBy words) (λ d. plane d table f scene t c z)
+unfoldable pub planeBy : List ℕ → List ℕ → List ℕ → Coordinate → Result Samples
+planeBy words table f co = bind (describedBy words) (λ d. plane d table f co)
 
-unfoldable pub regionBy : List ℕ → List ℕ → List ℕ → ℕ → ℕ → ℕ → ℕ → Rect → Result Samples
-regionBy words table f scene t c z r = bind (describedBy words) (λ d. region d table f scene t c z r)
+unfoldable pub regionBy : List ℕ → List ℕ → List ℕ → Coordinate → Rect → Result Samples
+regionBy words table f co r = bind (describedBy words) (λ d. region d table f co r)
 
 pub record PicturedBy (s : Result Samples) (lent out answer : List ℕ) (r : ℕ) : Type 0 where
   pub returned : r ≡ numberOf (into s (length lent))

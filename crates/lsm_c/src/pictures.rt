@@ -7,6 +7,7 @@ use lsm_region::PictureAnswer;
 use lsm_region::plane;
 use lsm_region::region;
 ghost use Rattle.lsm_format.specs.Code.{rectOf};
+ghost use Rattle.lsm_format.specs.Rectangle.{coordinate};
 ghost use Rattle.lsm_region.specs.Code.{answerOf, Pictured};
 ghost use Rattle.lsm_c.specs.Calls.{planeBy, regionBy, PicturedBy};
 
@@ -21,7 +22,7 @@ fn plane_by(
     z: usize,
     out: &mut [u8],
 ) -> PictureAnswer
-    ensures { λ r. ⌜ Pictured (planeBy (now (description .entry)) (now (table .entry)) (now (file .entry)) scene t c z) (now (out .entry)) (now (out .exit)) (answerOf r) ⌝ }
+    ensures { λ r. ⌜ Pictured (planeBy (now (description .entry)) (now (table .entry)) (now (file .entry)) (coordinate scene t c z)) (now (out .entry)) (now (out .exit)) (answerOf r) ⌝ }
 {
     match read_description(description) {
         DescriptionAnswer::Described(d) => plane(file, d, table, scene, t, c, z, out),
@@ -40,7 +41,7 @@ fn region_by(
     rect: PixelRect,
     out: &mut [u8],
 ) -> PictureAnswer
-    ensures { λ r. ⌜ Pictured (regionBy (now (description .entry)) (now (table .entry)) (now (file .entry)) scene t c z (rectOf rect)) (now (out .entry)) (now (out .exit)) (answerOf r) ⌝ }
+    ensures { λ r. ⌜ Pictured (regionBy (now (description .entry)) (now (table .entry)) (now (file .entry)) (coordinate scene t c z) (rectOf rect)) (now (out .entry)) (now (out .exit)) (answerOf r) ⌝ }
 {
     match read_description(description) {
         DescriptionAnswer::Described(d) => region(file, d, table, scene, t, c, z, rect, out),
@@ -61,7 +62,7 @@ pub extern "C" fn lsm_plane(
     out: &mut [u8],
     answer: &mut [usize; 5],
 ) -> usize
-    ensures { λ r. ⌜ PicturedBy (planeBy (now (description .entry)) (now (table .entry)) (now (file .entry)) scene t c z) (now (out .entry)) (now (out .exit)) (now (answer .exit)) r ⌝ }
+    ensures { λ r. ⌜ PicturedBy (planeBy (now (description .entry)) (now (table .entry)) (now (file .entry)) (coordinate scene t c z)) (now (out .entry)) (now (out .exit)) (now (answer .exit)) r ⌝ }
 {
     let words = picture_words(plane_by(file, description, table, scene, t, c, z, out));
     *answer = words;
@@ -85,7 +86,7 @@ pub extern "C" fn lsm_region(
     out: &mut [u8],
     answer: &mut [usize; 5],
 ) -> usize
-    ensures { λ r. ⌜ PicturedBy (regionBy (now (description .entry)) (now (table .entry)) (now (file .entry)) scene t c z (record { x = x; y = y; w = w; h = h })) (now (out .entry)) (now (out .exit)) (now (answer .exit)) r ⌝ }
+    ensures { λ r. ⌜ PicturedBy (regionBy (now (description .entry)) (now (table .entry)) (now (file .entry)) (coordinate scene t c z) (record { x = x; y = y; w = w; h = h })) (now (out .entry)) (now (out .exit)) (now (answer .exit)) r ⌝ }
 {
     let rect = PixelRect { x, y, w, h };
     let words = picture_words(region_by(file, description, table, scene, t, c, z, rect, out));

@@ -14,7 +14,7 @@ use Rattle.lsm_format.specs.Answer.{decode}
 use Rattle.lsm_format.specs.Words.{word}
 use Rattle.lsm_format.specs.Numbers.{Order}
 use Rattle.lsm_format.specs.Sizes.{Kind}
-use Rattle.lsm_format.specs.Scenes.{Layout, layout, pagesExpected}
+use Rattle.lsm_format.specs.Scenes.{Layout, layout, pages, pagesExpected}
 use Rattle.lsm_format.specs.CzInfo.{CzInfo}
 use Rattle.lsm_format.specs.Directory.{Directory}
 use Rattle.lsm_format.specs.Open.{Walk, Description, Opened, agreement, layoutFor, describe, describeWalk, tableWords, read}
@@ -27,7 +27,7 @@ use Rattle.lsm_format.proofs.Pages.{Even, walk-even}
 pub record Fits (d : Description) (table : List ℕ) : Type 0 where
   pub deep : d .dims .z ≡ d .layout .depth
   pub strips : 0 < stripsPerPage d
-  pub words : length table ≡ d .layout .scenes * d .layout .depth * stripsPerPage d * 2
+  pub words : length table ≡ pages (d .layout) * stripsPerPage d * 2
 
 -- "strips per channel": the strips of a page are shared out evenly
 shares : ℕ → ℕ → Type 0
@@ -56,20 +56,20 @@ layout-depth : (p m : ℤ) (depth : ℕ) → Accepting (λ (l : Layout). l .dept
 unfolding layout Accepting
 layout-depth p m depth = accepting-then _ _ _ (λ n. refl)
 
-layout-pages : (i : CzInfo) (pages : ℕ) →
-    Accepting (λ (l : Layout). (l .depth ≡ max 1 (i .dimZ)) × (pages ≡ l .scenes * l .depth)) (layoutFor i pages)
+layout-pages : (i : CzInfo) (n : ℕ) →
+    Accepting (λ (l : Layout). (l .depth ≡ max 1 (i .dimZ)) × (n ≡ pages l)) (layoutFor i n)
 unfolding layoutFor pagesExpected Accepting
-layout-pages i pages =
+layout-pages i n =
     accepting-bind _ _ _ _ (layout-depth (i .dimP) (i .dimM) (max 1 (i .dimZ))) (λ l e.
-    accepting-bind _ _ _ _ (accepting-given decode (word (l .scenes * l .depth))) (λ n w.
-    accepting-bind _ _ _ _ (accepting-need decode (eqb pages n)) (λ _ t. (e, eqb-true _ _ t ∙ word-some _ _ w .0))))
+    accepting-bind _ _ _ _ (accepting-given decode (word (pages l))) (λ expected w.
+    accepting-bind _ _ _ _ (accepting-need decode (eqb n expected)) (λ _ t. (e, eqb-true _ _ t ∙ word-some _ _ w .0))))
 
-describe-fits : (o : Order) (k : Kind) (p : Directory) (pages : ℕ) (i : CzInfo) (table : List ℕ) →
-    length table ≡ pages * length (p .offsets) * 2 → Accepting (λ (d : Description). Fits d table) (describe o k p pages i)
+describe-fits : (o : Order) (k : Kind) (p : Directory) (n : ℕ) (i : CzInfo) (table : List ℕ) →
+    length table ≡ n * length (p .offsets) * 2 → Accepting (λ (d : Description). Fits d table) (describe o k p n i)
 unfolding describe Accepting
-describe-fits o k p pages i table e =
+describe-fits o k p n i table e =
     accepting-bind _ _ _ _ (agreement-shares p i) (λ _ s.
-    accepting-bind _ _ _ _ (layout-pages i pages) (λ l h.
+    accepting-bind _ _ _ _ (layout-pages i n) (λ l h.
     let all = shared (length (p .offsets)) (max 1 (p .samples)) s in
     record { deep = sym (h .0); strips = rw all (shares-some (length (p .offsets)) (max 1 (p .samples)) s); words = rw (all, ← h .1) e }))
 

@@ -10,14 +10,14 @@ use mathlib.Core.List.{List, [], _∷_, _++_, append-assoc, append-nil}
 use lib.Dec.{leb, ltb, eqb}
 use lib.ListN.{length, getD, take, drop, length-append, List·getD-append}
 use lib.Seq.{drop-cons, getD-append-add, ext-getD}
-use borrow.Author.Tests.{lt-ltb, le-ltb, le-leb, lt-leb, leb-true, leb-false, ltb-true, eqb-true, eqb-false, not-true}
-use Rattle.lsm_format.specs.Answer.{Result, accepted, refused, bind, need, given, decode, oversizedAllocation, sceneOutOfRange, outOfRange}
+use borrow.Author.Tests.{eq-eqb, lt-ltb, le-ltb, le-leb, lt-leb, leb-true, leb-false, ltb-true, eqb-true, eqb-false, not-true}
+use Rattle.lsm_format.specs.Answer.{Result, accepted, refused, bind, need, given, decode, oversizedAllocation, sceneOutOfRange}
 use Rattle.lsm_format.specs.Words.{word}
 use Rattle.lsm_format.specs.Sizes.{Kind, pictureLimit, pictureBytes, unlimitedSize, pictureSize}
-use Rattle.lsm_format.specs.Rectangle.{Dims, Rect, coordinates, within, rectangle}
+use Rattle.lsm_format.specs.Rectangle.{Dims, Rect, Coordinate, noPicture, coordinates, within, rectangle}
 use Rattle.lsm_format.specs.Scenes.{pageOf}
 use Rattle.lsm_format.specs.Open.{Description}
-use Rattle.lsm_format.specs.Picture.{offsetOf, countOf, total, place, inside, span, bytes, picture, each, window, stripsPerPage, hasPage, firstStrip, channelStrips, coordinate, planeStrips}
+use Rattle.lsm_format.specs.Picture.{Picture, Strips, offsetOf, countOf, total, place, lies, inside, inTurn, span, bytes, picture, each, window, stripsPerPage, hasPage, stripsOn, channelStrips, sceneThere, coordinateThere, planeStrips}
 use Rattle.lsm_format.proofs.Words.{word-fits, word-some}
 use Rattle.lsm_format.proofs.Accepting.{both-hold}
 
@@ -135,20 +135,20 @@ window-rows f width s r =
     tile f (i * width) (r .x) (r .w) s ∙ ap (λ (k : ℕ). bytes f k (r .w * s)) q)
 
 -- every sample of the rectangle has s bytes
-abbrev pub Even : (ℕ → ℕ → List ℕ) → ℕ → Rect → Type 0
+abbrev pub Even : Picture → ℕ → Rect → Type 0
 Even p s r = (i j : ℕ) → r .y ≤ i → i < r .y + r .h → r .x ≤ j → j < r .x + r .w → length (p i j) ≡ s
 
-pub row-length : (p : ℕ → ℕ → List ℕ) (s : ℕ) (r : Rect) → Even p s r
+pub row-length : (p : Picture) (s : ℕ) (r : Rect) → Even p s r
     → (i : ℕ) → r .y ≤ i → i < r .y + r .h → length (span (r .x) (r .w) (p i)) ≡ r .w * s
 row-length p s r e i l u = span-length (r .x) (r .w) s (p i) (λ c lc uc. e i c l u lc uc)
 
-pub window-length : (p : ℕ → ℕ → List ℕ) (s : ℕ) (r : Rect) → Even p s r → length (window p r) ≡ r .h * (r .w * s)
+pub window-length : (p : Picture) (s : ℕ) (r : Rect) → Even p s r → length (window p r) ≡ r .h * (r .w * s)
 unfolding window
 window-length p s r e = span-length (r .y) (r .h) (r .w * s) (λ i. span (r .x) (r .w) (p i)) (row-length p s r e)
 
 -- "the one at i, j of an answer w columns wide stands at (i × w + j) × sample size": the answer, looked at as a picture of width w, is
 -- the picture moved by x, y
-pub window-at : (p : ℕ → ℕ → List ℕ) (s : ℕ) (r : Rect) → Even p s r → (i j : ℕ) → i < r .h → j < r .w
+pub window-at : (p : Picture) (s : ℕ) (r : Rect) → Even p s r → (i j : ℕ) → i < r .h → j < r .w
     → picture (held (window p r)) (r .w) s i j ≡ p (r .y + i) (r .x + j)
 unfolding window picture
 window-at p s r e i j hi hj =
@@ -165,7 +165,7 @@ window-at p s r e i j hi hj =
     ∙ span-at (r .x) (r .w) s (p (r .y + i)) (λ c lc uc. e (r .y + i) c (omega arith) (omega arith) lc uc) j b hj hb′)
 
 -- pictures that agree on the rectangle have one window
-pub window-cong : (p q : ℕ → ℕ → List ℕ) (r : Rect) → ((i j : ℕ) → r .y ≤ i → i < r .y + r .h → r .x ≤ j → j < r .x + r .w → p i j ≡ q i j)
+pub window-cong : (p q : Picture) (r : Rect) → ((i j : ℕ) → r .y ≤ i → i < r .y + r .h → r .x ≤ j → j < r .x + r .w → p i j ≡ q i j)
     → window p r ≡ window q r
 unfolding window
 window-cong p q r e =
@@ -173,7 +173,7 @@ window-cong p q r e =
     (λ i l u. span-cong (r .x) (r .w) (p i) (q i) (λ j lc uc. e i j l u lc uc))
 
 -- a rectangle of a picture that is moved by x, y
-pub window-moved : (p : ℕ → ℕ → List ℕ) (x y : ℕ) (r : Rect)
+pub window-moved : (p : Picture) (x y : ℕ) (r : Rect)
     → window (λ i j. p (y + i) (x + j)) r ≡ window p (record { x = x + r .x; y = y + r .y; w = r .w; h = r .h })
 unfolding window
 window-moved p x y r =
@@ -197,7 +197,7 @@ span-grid w (suc h) g =
     rw (q, t, span-grid w h g) (sym (span-last h (λ i. span 0 w (λ j. g (i * w + j)))))
 
 -- changed in place, sample after sample, a window is the window of the changed picture
-pub window-each : (φ : List ℕ → List ℕ) (p : ℕ → ℕ → List ℕ) (s : ℕ) (r : Rect) → Even p s r
+pub window-each : (φ : List ℕ → List ℕ) (p : Picture) (s : ℕ) (r : Rect) → Even p s r
     → span 0 (r .h * r .w) (λ q. φ (bytes (held (window p r)) (q * s) s)) ≡ window (each φ p) r
 unfolding each window picture
 window-each φ p s r e =
@@ -271,6 +271,45 @@ pub inside-head : (t : List ℕ) (len i n : ℕ) → 0 < n → inside t len i n 
     → (offsetOf t i + countOf t i ≤ len) × (inside t len (i + 1) (n - 1) ≡ true)
 inside-head t len i n h e = head-by t len i n (leb (offsetOf t i + countOf t i) len) refl h e
 
+-- ---- strips in turn
+
+module _ (outside miscounted t : List ℕ) (len : ℕ) where
+  pub turn-none : (i n left : ℕ) → n ≤ 0 → inTurn outside miscounted t len i n left ≡ need miscounted (eqb left 0)
+  unfolding inTurn
+  turn-none i zero left h = refl
+  turn-none i (suc n) left h = absurd (not-suc-le-zero h)
+
+  pub turn-outside : (i n left : ℕ) → 0 < n → lies t len i ≡ false → inTurn outside miscounted t len i n left ≡ refused outside
+  unfolding inTurn bind
+  turn-outside i zero left h l = absurd (not-suc-le-zero h)
+  turn-outside i (suc n) left h l = rw l
+
+  pub turn-over : (i n left : ℕ) → 0 < n → lies t len i ≡ true → left < countOf t i → inTurn outside miscounted t len i n left ≡ refused miscounted
+  unfolding inTurn bind
+  turn-over i zero left h l u = absurd (not-suc-le-zero h)
+  turn-over i (suc n) left h l u = rw (l, lt-leb (countOf t i) left u)
+
+  pub turn-next : (i n left : ℕ) → 0 < n → lies t len i ≡ true → countOf t i ≤ left
+      → inTurn outside miscounted t len i n left ≡ inTurn outside miscounted t len (i + 1) (n - 1) (left - countOf t i)
+  unfolding inTurn bind
+  turn-next i zero left h l u = absurd (not-suc-le-zero h)
+  turn-next i (suc n) left h l u =
+      let q : suc n - 1 ≡ n = omega arith in
+      rw (l, le-leb (countOf t i) left u, q)
+
+  -- strips of which nothing is left over and nothing is missing are refused only where one lies outside
+  pub turn-total : (i n left : ℕ) → total t i n ≡ left → inTurn outside miscounted t len i n left ≡ need outside (inside t len i n)
+  unfolding total inside
+  turn-total i zero left e = turn-none i 0 left (omega arith) ∙ rw (eq-eqb left 0 (sym e))
+  turn-total i (suc n) left e = by (lies t len i) refl (turn-total (i + 1) n (left - countOf t i) (omega arith))
+    where
+      by : (b : Bool) → lies t len i ≡ b → inTurn outside miscounted t len (i + 1) n (left - countOf t i) ≡ need outside (inside t len (i + 1) n)
+          → inTurn outside miscounted t len i (suc n) left ≡ need outside (b && inside t len (i + 1) n)
+      by true l rest =
+          let z : suc n - 1 ≡ n = omega arith in
+          turn-next i (suc n) left (omega arith) l (omega arith) ∙ rw z rest
+      by false l rest = turn-outside i (suc n) left (omega arith) l
+
 -- ---- a rule's steps, from its answer
 
 pub given-some : {A : Type 0} (row : List ℕ) (o : Option A) (a : A) → given row o ≡ accepted a → o ≡ some a
@@ -310,13 +349,14 @@ module _ (w h : ℕ) (k : Kind) where
 
 -- ---- coordinates and rectangles that are accepted
 
-pub coordinate-channel : (d : Description) (scene t c z : ℕ) (u : Unit {0}) → coordinate d scene t c z ≡ accepted u → c < d .dims .c
-unfolding coordinate coordinates
-coordinate-channel d scene t c z u e =
-    bind-then (need (sceneOutOfRange scene (d .layout .scenes)) (ltb scene (d .layout .scenes))) _ u e
+pub coordinate-channel : (d : Description) (co : Coordinate) (u : Unit {0}) → coordinateThere d co ≡ accepted u → co .c < d .dims .c
+unfolding coordinateThere coordinates
+coordinate-channel d co u e =
+    bind-then (sceneThere d (co .scene)) _ u e
     (λ a e₁ e₂.
-    let b = need-true _ (ltb t (d .dims .t) && ltb c (d .dims .c) && ltb z (d .dims .z)) u e₂ in
-    ltb-true c (d .dims .c) (both-hold (ltb t (d .dims .t)) (ltb c (d .dims .c)) (both-hold (ltb t (d .dims .t) && ltb c (d .dims .c)) (ltb z (d .dims .z)) b .0) .1))
+    let b = need-true _ (ltb (co .t) (d .dims .t) && ltb (co .c) (d .dims .c) && ltb (co .z) (d .dims .z)) u e₂ in
+    ltb-true (co .c) (d .dims .c)
+    (both-hold (ltb (co .t) (d .dims .t)) (ltb (co .c) (d .dims .c)) (both-hold (ltb (co .t) (d .dims .t) && ltb (co .c) (d .dims .c)) (ltb (co .z) (d .dims .z)) b .0) .1))
 
 pub rectangle-within : (d : Dims) (r : Rect) (u : Unit {0}) → rectangle d r ≡ accepted u → (r .x + r .w ≤ d .x) × (r .y + r .h ≤ d .y)
 unfolding rectangle
@@ -354,93 +394,100 @@ page-missing d words page h =
 
 -- a channel's strips are in the page
 pub channel-in : (d : Description) (words page c : ℕ) → c < d .dims .c → 2 * (page * stripsPerPage d + stripsPerPage d) ≤ words
-    → 2 * (firstStrip d page c + d .stripsPerChannel) ≤ words
+    → 2 * (stripsOn d page c .first + stripsOn d page c .count) ≤ words
 channel-in d words page c h l =
     omega (arith, suc-mul c (d .stripsPerChannel), mul-le-mul-right (d .stripsPerChannel) h)
 
-module _ (d : Description) (words scene t c z : ℕ) where
-  pub channel-nowhere : pageOf (d .layout) scene z ≡ none → refused (outOfRange scene t c z) ≡ channelStrips d words scene t c z
+module _ (d : Description) (words : ℕ) (co : Coordinate) where
+  pub channel-nowhere : pageOf (d .layout) co ≡ none → refused (noPicture co) ≡ channelStrips d words co
   unfolding channelStrips bind
   channel-nowhere e = rw (e, channelStrips, bind)
 
-  pub channel-missing : (page : ℕ) → pageOf (d .layout) scene z ≡ some page → hasPage d words page ≡ false
-      → refused (outOfRange scene t c z) ≡ channelStrips d words scene t c z
+  pub channel-missing : (page : ℕ) → pageOf (d .layout) co ≡ some page → hasPage d words page ≡ false
+      → refused (noPicture co) ≡ channelStrips d words co
   unfolding channelStrips bind
   channel-missing page e h = rw (e, channelStrips, bind) (rw (h, bind))
 
-  pub channel-at : (page : ℕ) → pageOf (d .layout) scene z ≡ some page → hasPage d words page ≡ true
-      → accepted (firstStrip d page c) ≡ channelStrips d words scene t c z
+  pub channel-at : (page : ℕ) → pageOf (d .layout) co ≡ some page → hasPage d words page ≡ true
+      → accepted (stripsOn d page (co .c)) ≡ channelStrips d words co
   unfolding channelStrips bind
   channel-at page e h = rw (e, channelStrips, bind) (rw (h, bind))
 
-  -- the strips that are there are those of the channel of a page
-  pub channel-page : {C : Type 0} (first : ℕ) → channelStrips d words scene t c z ≡ accepted first
-      → ((page : ℕ) → pageOf (d .layout) scene z ≡ some page → firstStrip d page c ≡ first → C) → C
+  -- the strips that are there are those of the channel of a page that the table has
+  pub channel-page : {C : Type 0} (s : Strips) → channelStrips d words co ≡ accepted s
+      → ((page : ℕ) → pageOf (d .layout) co ≡ some page → hasPage d words page ≡ true → stripsOn d page (co .c) ≡ s → C) → C
   unfolding channelStrips
-  channel-page first e go =
-      bind-then (given (outOfRange scene t c z) (pageOf (d .layout) scene z)) _ first e
+  channel-page s e go =
+      bind-then (given (noPicture co) (pageOf (d .layout) co)) _ s e
       (λ page e₁ e₂.
-      bind-then (need (outOfRange scene t c z) (hasPage d words page)) _ first e₂
+      bind-then (need (noPicture co) (hasPage d words page)) _ s e₂
       (λ u e₃ e₄.
-      let q : firstStrip d page c ≡ first = cc in
-      go page (given-some _ (pageOf (d .layout) scene z) page e₁) q))
+      let q : stripsOn d page (co .c) ≡ s = cc in
+      go page (given-some _ (pageOf (d .layout) co) page e₁) (need-true _ (hasPage d words page) u e₃) q))
 
-  pub channel-room : (first : ℕ) → channelStrips d words scene t c z ≡ accepted first → c < d .dims .c → 2 * (first + d .stripsPerChannel) ≤ words
-  unfolding channelStrips
-  channel-room first e h =
-      bind-then (given (outOfRange scene t c z) (pageOf (d .layout) scene z)) _ first e
-      (λ page e₁ e₂.
-      bind-then (need (outOfRange scene t c z) (hasPage d words page)) _ first e₂
-      (λ u e₃ e₄.
-      let q : firstStrip d page c ≡ first = cc in
-      rw (sym q) (channel-in d words page c h (page-there d words page (need-true _ (hasPage d words page) u e₃) .1))))
+  pub channel-room : (s : Strips) → channelStrips d words co ≡ accepted s → co .c < d .dims .c → 2 * (s .first + s .count) ≤ words
+  channel-room s e h =
+      channel-page s e
+      (λ page p there q. rw (sym q) (channel-in d words page (co .c) h (page-there d words page there .1)))
 
 -- ---- plane's strips
 
-module _ (d : Description) (t : List ℕ) (len scene time c z : ℕ) where
+module _ (d : Description) (t : List ℕ) (len : ℕ) (co : Coordinate) where
   pub strips-oversized : (row : List ℕ) → pictureSize (d .dims .x) (d .dims .y) (d .kind) ≡ refused row
-      → refused row ≡ planeStrips d t len scene time c z
+      → refused row ≡ planeStrips d t len co
   unfolding planeStrips bind
   strips-oversized row e = rw e
 
   pub strips-nowhere : (size : ℕ) (row : List ℕ) → pictureSize (d .dims .x) (d .dims .y) (d .kind) ≡ accepted size
-      → channelStrips d (length t) scene time c z ≡ refused row → refused row ≡ planeStrips d t len scene time c z
+      → channelStrips d (length t) co ≡ refused row → refused row ≡ planeStrips d t len co
   unfolding planeStrips bind
   strips-nowhere size row e h = rw (e, h)
 
-  pub strips-judged : (size first : ℕ) → pictureSize (d .dims .x) (d .dims .y) (d .kind) ≡ accepted size
-      → channelStrips d (length t) scene time c z ≡ accepted first
-      → planeStrips d t len scene time c z
-      ≡ bind (need decode (inside t len first (d .stripsPerChannel))) (λ _. bind (need decode (eqb (total t first (d .stripsPerChannel)) size)) (λ _. accepted first))
+  pub strips-judged : (size : ℕ) (s : Strips) → pictureSize (d .dims .x) (d .dims .y) (d .kind) ≡ accepted size
+      → channelStrips d (length t) co ≡ accepted s
+      → planeStrips d t len co ≡ bind (inTurn decode decode t len (s .first) (s .count) size) (λ _. accepted s)
   unfolding planeStrips bind
-  strips-judged size first e h = rw (e, h)
+  strips-judged size s e h = rw (e, h)
+
+-- what strips in turn tell where they are accepted
+pub turn-accepted : (outside miscounted t : List ℕ) (len i n left : ℕ) (u : Unit {0}) → inTurn outside miscounted t len i n left ≡ accepted u
+    → (inside t len i n ≡ true) × (total t i n ≡ left)
+unfolding inTurn inside total
+turn-accepted outside miscounted t len i zero left u e = (refl, sym (eqb-true left 0 (need-true miscounted (eqb left 0) u e)))
+turn-accepted outside miscounted t len i (suc n) left u e =
+    bind-then (need outside (lies t len i)) _ u e
+    (λ a e₁ e₂.
+    bind-then (need miscounted (leb (countOf t i) left)) _ u e₂
+    (λ b e₃ e₄.
+    let rest = turn-accepted outside miscounted t len (i + 1) n (left - countOf t i) u e₄ in
+    let l : countOf t i ≤ left = leb-true _ _ (need-true miscounted (leb (countOf t i) left) b e₃) in
+    (rw (need-true outside (lies t len i) a e₁) (rest .0), omega (arith, rest .1))))
 
 -- what plane's checks tell of the strips that they accept
-pub record PlaneAccepted (d : Description) (t : List ℕ) (len scene time c z first : ℕ) : Type 0 where
+pub record PlaneAccepted (d : Description) (t : List ℕ) (len : ℕ) (co : Coordinate) (s : Strips) : Type 0 where
   pub size : pictureSize (d .dims .x) (d .dims .y) (d .kind) ≡ accepted (pictureBytes (d .dims .x) (d .dims .y) (d .kind))
   pub small : pictureBytes (d .dims .x) (d .dims .y) (d .kind) ≤ pictureLimit
-  pub channel : channelStrips d (length t) scene time c z ≡ accepted first
-  pub within : inside t len first (d .stripsPerChannel) ≡ true
-  pub summed : total t first (d .stripsPerChannel) ≡ pictureBytes (d .dims .x) (d .dims .y) (d .kind)
+  pub channel : channelStrips d (length t) co ≡ accepted s
+  pub within : inside t len (s .first) (s .count) ≡ true
+  pub summed : total t (s .first) (s .count) ≡ pictureBytes (d .dims .x) (d .dims .y) (d .kind)
 
-pub plane-accepted : (d : Description) (t : List ℕ) (len scene time c z first : ℕ) → planeStrips d t len scene time c z ≡ accepted first
-    → PlaneAccepted d t len scene time c z first
+pub plane-accepted : (d : Description) (t : List ℕ) (len : ℕ) (co : Coordinate) (s : Strips) → planeStrips d t len co ≡ accepted s
+    → PlaneAccepted d t len co s
 unfolding planeStrips
-plane-accepted d t len scene time c z first e =
-    bind-then (pictureSize (d .dims .x) (d .dims .y) (d .kind)) _ first e
+plane-accepted d t len co s e =
+    bind-then (pictureSize (d .dims .x) (d .dims .y) (d .kind)) _ s e
     (λ n e₁ e₂.
-    bind-then (channelStrips d (length t) scene time c z) _ first e₂
+    bind-then (channelStrips d (length t) co) _ s e₂
     (λ p e₃ e₄.
-    bind-then (need decode (inside t len p (d .stripsPerChannel))) _ first e₄
+    bind-then (inTurn decode decode t len (p .first) (p .count) n) _ s e₄
     (λ u e₅ e₆.
-    bind-then (need decode (eqb (total t p (d .stripsPerChannel)) n)) _ first e₆
-    (λ v e₇ e₈.
-    let q : p ≡ first = cc in
-    let s = size-is (d .dims .x) (d .dims .y) (d .kind) n e₁ in
+    let q : p ≡ s = cc in
+    let z = size-is (d .dims .x) (d .dims .y) (d .kind) n e₁ in
+    let all = turn-accepted decode decode t len (p .first) (p .count) n u e₅ in
     record {
-      size = rw (sym (s .0)) e₁;
-      small = rw (sym (s .0)) (s .1);
+      size = rw (sym (z .0)) e₁;
+      small = rw (sym (z .0)) (z .1);
       channel = rw q at e₃;
-      within = rw q at (need-true _ (inside t len p (d .stripsPerChannel)) u e₅);
-      summed = rw (sym (s .0), sym q) (eqb-true _ _ (need-true _ (eqb (total t p (d .stripsPerChannel)) n) v e₇));
-    }))))
+      within = rw q at (all .0);
+      summed = rw (sym (z .0), sym q) (all .1);
+    })))

@@ -12,11 +12,11 @@ use borrow.Author.Tests.{eq-eqb, eqb-true, eqb-false, ltb-true, leb-true, le-leb
 use Rattle.lsm_format.specs.Answer.{Result, accepted, refused, bind, need, decode}
 use Rattle.lsm_format.specs.Numbers.{Order, little, big}
 use Rattle.lsm_format.specs.Sizes.{Kind, sampleSize, pictureLimit, pictureBytes, pictureSize}
-use Rattle.lsm_format.specs.Rectangle.{Rect, rectangle, isEmpty}
-use Rattle.lsm_format.specs.Scenes.{pageOf}
+use Rattle.lsm_format.specs.Rectangle.{Rect, Coordinate, rectangle, isEmpty}
+use Rattle.lsm_format.specs.Scenes.{pages, pageOf}
 use Rattle.lsm_format.specs.Open.{Description}
-use Rattle.lsm_format.specs.Picture.{Samples, countOf, total, inside, stored, picture, toLittle, each, window, hasPage, firstStrip, channelStrips, coordinate, planeStrips, channelPicture, samplesIn, wholePicture, plane, rowBytes, wholeStrips, rowsIn, wholeChannel, wholeChannels, wholePages, wholeRows, windowEnd, windowStrips, regionBy, regionStrips, filledRegion, region}
-use Rattle.lsm_format.proofs.Picture.{held, Even, picture-length, window-length, window-at, bind-then, need-true, size-is, size-fits, rectangle-within, channel-page, strips-nowhere, plane-accepted}
+use Rattle.lsm_format.specs.Picture.{Picture, Strips, Samples, countOf, total, inside, inTurn, stored, picture, toLittle, each, window, hasPage, stripsOn, channelStrips, coordinateThere, planeStrips, planeFrom, channelPicture, samplesIn, wholePicture, plane, rowBytes, wholeStrips, rowsIn, wholeChannel, wholeChannels, wholePage, wholePages, wholeRows, windowEnd, rowStrips, windowStrips, regionBy, regionStrips, noStrips, filledStrips, regionFrom, region}
+use Rattle.lsm_format.proofs.Picture.{held, Even, picture-length, window-length, window-at, bind-then, need-true, size-is, size-fits, rectangle-within, channel-page, turn-total, strips-nowhere, plane-accepted}
 use Rattle.lsm_format.proofs.Accepting.{both-hold}
 
 -- ---- numbers of a rectangle
@@ -43,25 +43,28 @@ whole-total row t i (suc n) w =
     rw (whole-total row t (i + 1) n (b .1), add-mul) (omega (arith, div-add-mod' (countOf t i) row, m))
 
 -- strips of whole rows that are the picture's height hold the picture's bytes
-pub whole-bytes : (d : Description) (t : List ℕ) (first : ℕ) → wholeChannel d t first ≡ true
-    → total t first (d .stripsPerChannel) ≡ d .dims .y * rowBytes d
+pub whole-bytes : (d : Description) (t : List ℕ) (s : Strips) → wholeChannel d t s ≡ true
+    → total t (s .first) (s .count) ≡ d .dims .y * rowBytes d
 unfolding wholeChannel
-whole-bytes d t first w =
-    let b = both-hold (wholeStrips (rowBytes d) t first (d .stripsPerChannel)) (eqb (rowsIn (rowBytes d) t first (d .stripsPerChannel)) (d .dims .y)) w in
-    whole-total (rowBytes d) t first (d .stripsPerChannel) (b .0) ∙ ap (λ (k : ℕ). k * rowBytes d) (eqb-true _ _ (b .1))
+whole-bytes d t s w =
+    let b = both-hold (wholeStrips (rowBytes d) t (s .first) (s .count)) (eqb (rowsIn (rowBytes d) t (s .first) (s .count)) (d .dims .y)) w in
+    whole-total (rowBytes d) t (s .first) (s .count) (b .0) ∙ ap (λ (k : ℕ). k * rowBytes d) (eqb-true _ _ (b .1))
 
--- the pages of the whole-row test
-abbrev pub pages : Description → ℕ
-pages d = d .layout .scenes * d .layout .depth
+-- what the whole-row test tells where it says yes: rows have bytes and fit the machine, and all pages hold whole rows
+pub record WholeRows (d : Description) (t : List ℕ) : Type 0 where
+  pub some : 0 < rowBytes d
+  pub fits : rowBytes d < 2 ^ 64
+  pub all : wholePages d t (pages (d .layout)) ≡ true
 
--- the rows of the whole-row test have bytes, and fit the machine
-pub whole-row : (d : Description) (t : List ℕ) → wholeRows d t ≡ true → (0 < rowBytes d) × (rowBytes d < 2 ^ 64)
+pub whole-rows : (d : Description) (t : List ℕ) → wholeRows d t ≡ true → WholeRows d t
 unfolding wholeRows
-whole-row d t e =
-    let a = both-hold (not (eqb (rowBytes d) 0)) (ltb (rowBytes d) (2 ^ 64) && (ltb (pages d) (2 ^ 64) && wholePages d t (pages d))) e in
-    let b = both-hold (ltb (rowBytes d) (2 ^ 64)) (ltb (pages d) (2 ^ 64) && wholePages d t (pages d)) (a .1) in
+whole-rows d t e =
+    let all = wholePages d t (pages (d .layout)) in
+    let few = ltb (pages (d .layout)) (2 ^ 64) in
+    let a = both-hold (not (eqb (rowBytes d) 0)) (ltb (rowBytes d) (2 ^ 64) && (few && all)) e in
+    let b = both-hold (ltb (rowBytes d) (2 ^ 64)) (few && all) (a .1) in
     let n = eqb-false (rowBytes d) 0 (not-true _ (a .0)) in
-    (omega arith, ltb-true _ _ (b .0))
+    record { some = omega arith; fits = ltb-true _ _ (b .0); all = both-hold few all (b .1) .1 }
 
 -- the last of the numbers below suc m, or one before it
 pub below : {C : Type 0} (k m : ℕ) → k < suc m → (k < m → C) → (k ≡ m → C) → C
@@ -79,16 +82,13 @@ all-tell all one step k (suc m) l h =
     below k m l (λ u. all-tell all one step k m u (b .0)) (λ e. ap one e ∙ b .1)
 
 -- where the test says yes, each channel of each of its pages holds the picture's rows
-whole-tested : (d : Description) (t : List ℕ) (page c : ℕ) → wholeRows d t ≡ true → page < pages d → c < d .dims .c
-    → wholeChannel d t (firstStrip d page c) ≡ true
-unfolding wholeRows wholePages wholeChannels
+whole-tested : (d : Description) (t : List ℕ) (page c : ℕ) → wholeRows d t ≡ true → page < pages (d .layout) → c < d .dims .c
+    → wholeChannel d t (stripsOn d page c) ≡ true
+unfolding wholePages wholeChannels
 whole-tested d t page c e l h =
-    let a = both-hold (not (eqb (rowBytes d) 0)) (ltb (rowBytes d) (2 ^ 64) && (ltb (pages d) (2 ^ 64) && wholePages d t (pages d))) e in
-    let b = both-hold (ltb (rowBytes d) (2 ^ 64)) (ltb (pages d) (2 ^ 64) && wholePages d t (pages d)) (a .1) in
-    let all = both-hold (ltb (pages d) (2 ^ 64)) (wholePages d t (pages d)) (b .1) .1 in
-    let one = all-tell (wholePages d t) (λ k. hasPage d (length t) k && wholeChannels d t k (d .dims .c)) (λ k. refl) page (pages d) l all in
+    let one = all-tell (wholePages d t) (wholePage d t) (λ k. refl) page (pages (d .layout)) l (whole-rows d t e .all) in
     let channels = both-hold (hasPage d (length t) page) (wholeChannels d t page (d .dims .c)) one .1 in
-    all-tell (wholeChannels d t page) (λ k. wholeChannel d t (firstStrip d page k)) (λ k. refl) c (d .dims .c) h channels
+    all-tell (wholeChannels d t page) (λ k. wholeChannel d t (stripsOn d page k)) (λ k. refl) c (d .dims .c) h channels
 
 -- a rectangle in the picture ends where the picture does, or before
 pub end-inside : (d : Description) (r : Rect) → r .x + r .w ≤ d .dims .x → r .y + r .h ≤ d .dims .y → 0 < r .h
@@ -102,19 +102,19 @@ end-inside d r a b h =
 -- ---- region's strips
 
 -- what region's checks tell of the strips that they accept
-pub record RegionAccepted (d : Description) (t : List ℕ) (len scene time c z first : ℕ) (r : Rect) : Type 0 where
-  pub channel : channelStrips d (length t) scene time c z ≡ accepted first
-  pub within : inside t len first (d .stripsPerChannel) ≡ true
-  pub reach : windowEnd d r ≤ total t first (d .stripsPerChannel)
+pub record RegionAccepted (d : Description) (t : List ℕ) (len : ℕ) (co : Coordinate) (s : Strips) (r : Rect) : Type 0 where
+  pub channel : channelStrips d (length t) co ≡ accepted s
+  pub within : inside t len (s .first) (s .count) ≡ true
+  pub reach : windowEnd d r ≤ total t (s .first) (s .count)
   pub small : pictureBytes (r .w) (r .h) (d .kind) ≤ pictureLimit
   pub row : rowBytes d < 2 ^ 64
 
 -- A rectangle that has rows, in the picture.
-module _ (d : Description) (t : List ℕ) (len scene time c z : ℕ) (r : Rect) (wide : r .x + r .w ≤ d .dims .x) (high : r .y + r .h ≤ d .dims .y) (rows : 0 < r .h) where
+module _ (d : Description) (t : List ℕ) (len : ℕ) (co : Coordinate) (r : Rect) (wide : r .x + r .w ≤ d .dims .x) (high : r .y + r .h ≤ d .dims .y) (rows : 0 < r .h) where
   -- by plane's checks
-  pub accepted-by-plane : (first : ℕ) → planeStrips d t len scene time c z ≡ accepted first → RegionAccepted d t len scene time c z first r
-  accepted-by-plane first e =
-      let p = plane-accepted d t len scene time c z first e in
+  pub accepted-by-plane : (s : Strips) → planeStrips d t len co ≡ accepted s → RegionAccepted d t len co s r
+  accepted-by-plane s e =
+      let p = plane-accepted d t len co s e in
       let made : pictureBytes (d .dims .x) (d .dims .y) (d .kind) ≡ d .dims .y * rowBytes d = size-rows (d .dims .x) (d .dims .y) (sampleSize (d .kind)) in
       let one : 1 ≤ d .dims .y = omega arith in
       record {
@@ -126,136 +126,123 @@ module _ (d : Description) (t : List ℕ) (len scene time c z : ℕ) (r : Rect) 
       }
 
   -- where all strips hold whole rows
-  accepted-by-rows : (first : ℕ) → wholeRows d t ≡ true → windowStrips d t len scene time c z r ≡ accepted first
-      → RegionAccepted d t len scene time c z first r
-  unfolding windowStrips
-  accepted-by-rows first w e =
-      bind-then (pictureSize (r .w) (r .h) (d .kind)) _ first e
+  accepted-by-rows : (s : Strips) → wholeRows d t ≡ true → windowStrips d t len co r ≡ accepted s → RegionAccepted d t len co s r
+  unfolding windowStrips rowStrips
+  accepted-by-rows s w e =
+      bind-then (pictureSize (r .w) (r .h) (d .kind)) _ s e
       (λ n e₁ e₂.
-      bind-then (channelStrips d (length t) scene time c z) _ first e₂
+      bind-then (channelStrips d (length t) co) _ s e₂
       (λ p e₃ e₄.
-      bind-then (need decode (inside t len p (d .stripsPerChannel))) _ first e₄
+      bind-then (need decode (inside t len (p .first) (p .count))) _ s e₄
       (λ u e₅ e₆.
-      bind-then (need decode (leb (windowEnd d r) (total t p (d .stripsPerChannel)))) _ first e₆
+      bind-then (need decode (leb (windowEnd d r) (total t (p .first) (p .count)))) _ s e₆
       (λ v e₇ e₈.
-      let q : p ≡ first = cc in
-      let s = size-is (r .w) (r .h) (d .kind) n e₁ in
+      let q : p ≡ s = cc in
+      let z = size-is (r .w) (r .h) (d .kind) n e₁ in
       record {
         channel = rw q at e₃;
-        within = rw q at (need-true _ (inside t len p (d .stripsPerChannel)) u e₅);
-        reach = rw q at (leb-true (windowEnd d r) (total t p (d .stripsPerChannel)) (need-true _ (leb (windowEnd d r) (total t p (d .stripsPerChannel))) v e₇));
-        small = rw (sym (s .0)) (s .1);
-        row = whole-row d t w .1;
+        within = rw q at (need-true _ (inside t len (p .first) (p .count)) u e₅);
+        reach = rw q at (leb-true (windowEnd d r) (total t (p .first) (p .count)) (need-true _ (leb (windowEnd d r) (total t (p .first) (p .count))) v e₇));
+        small = rw (sym (z .0)) (z .1);
+        row = whole-rows d t w .fits;
       }))))
 
-  accepted-by : (first : ℕ) (b : Bool) → wholeRows d t ≡ b → regionBy b d t len scene time c z r ≡ accepted first → RegionAccepted d t len scene time c z first r
-  accepted-by first true w e = accepted-by-rows first w e
-  accepted-by first false w e = accepted-by-plane first e
+  accepted-by : (s : Strips) (b : Bool) → wholeRows d t ≡ b → regionBy b d t len co r ≡ accepted s → RegionAccepted d t len co s r
+  accepted-by s true w e = accepted-by-rows s w e
+  accepted-by s false w e = accepted-by-plane s e
 
-  pub region-accepted : (first : ℕ) → regionStrips d t len scene time c z r ≡ accepted first → RegionAccepted d t len scene time c z first r
+  pub region-accepted : (s : Strips) → regionStrips d t len co r ≡ accepted s → RegionAccepted d t len co s r
   unfolding regionStrips
-  region-accepted first e = accepted-by first (wholeRows d t) refl e
+  region-accepted s e = accepted-by s (wholeRows d t) refl e
 
   -- The picture isn't oversized.
   module _ (size : ℕ) (e : pictureSize (d .dims .x) (d .dims .y) (d .kind) ≡ accepted size) where
     part-size : pictureSize (r .w) (r .h) (d .kind) ≡ accepted (pictureBytes (r .w) (r .h) (d .kind))
     part-size =
-        let s = size-is (d .dims .x) (d .dims .y) (d .kind) size e in
-        size-fits (r .w) (r .h) (d .kind) (omega (arith, size-part (r .w) (r .h) (d .dims .x) (d .dims .y) (d .kind) (omega arith) (omega arith), s .0, s .1))
+        let z = size-is (d .dims .x) (d .dims .y) (d .kind) size e in
+        size-fits (r .w) (r .h) (d .kind) (omega (arith, size-part (r .w) (r .h) (d .dims .x) (d .dims .y) (d .kind) (omega arith) (omega arith), z .0, z .1))
 
     -- strips that make the picture hold every rectangle of it
-    reaches : (first : ℕ) → total t first (d .stripsPerChannel) ≡ size → leb (windowEnd d r) (total t first (d .stripsPerChannel)) ≡ true
-    reaches first q =
-        let s = size-is (d .dims .x) (d .dims .y) (d .kind) size e in
-        le-leb (windowEnd d r) (total t first (d .stripsPerChannel)) (omega (arith, end-inside d r wide high rows, q, s .0, size-rows (d .dims .x) (d .dims .y) (sampleSize (d .kind))))
+    reaches : (s : Strips) → total t (s .first) (s .count) ≡ size → leb (windowEnd d r) (total t (s .first) (s .count)) ≡ true
+    reaches s q =
+        let z = size-is (d .dims .x) (d .dims .y) (d .kind) size e in
+        le-leb (windowEnd d r) (total t (s .first) (s .count)) (omega (arith, end-inside d r wide high rows, q, z .0, size-rows (d .dims .x) (d .dims .y) (sampleSize (d .kind))))
 
     -- the two ways to judge strips that make the picture
-    judged-alike : (first : ℕ) → total t first (d .stripsPerChannel) ≡ size → channelStrips d (length t) scene time c z ≡ accepted first
-        → windowStrips d t len scene time c z r ≡ planeStrips d t len scene time c z
-    unfolding windowStrips planeStrips bind
-    judged-alike first q h = rw (part-size, e, h, reaches first q, eq-eqb _ _ q)
+    judged-alike : (s : Strips) → total t (s .first) (s .count) ≡ size → channelStrips d (length t) co ≡ accepted s
+        → windowStrips d t len co r ≡ planeStrips d t len co
+    unfolding windowStrips rowStrips planeStrips bind
+    judged-alike s q h = rw (part-size, e, h, reaches s q, turn-total decode decode t len (s .first) (s .count) size q)
 
     -- those of a page of the test do
-    tested-made : wholeRows d t ≡ true → c < d .dims .c → ((page : ℕ) → pageOf (d .layout) scene z ≡ some page → page < pages d)
-        → (first : ℕ) → channelStrips d (length t) scene time c z ≡ accepted first → total t first (d .stripsPerChannel) ≡ size
-    tested-made w k tested first h =
-        channel-page d (length t) scene time c z first h
-        (λ page p q.
-        let s = size-is (d .dims .x) (d .dims .y) (d .kind) size e in
-        let whole : wholeChannel d t first ≡ true = rw q at (whole-tested d t page c w (tested page p) k) in
-        whole-bytes d t first whole ∙ sym (size-rows (d .dims .x) (d .dims .y) (sampleSize (d .kind))) ∙ sym (s .0))
+    tested-made : wholeRows d t ≡ true → co .c < d .dims .c → ((page : ℕ) → pageOf (d .layout) co ≡ some page → page < pages (d .layout))
+        → (s : Strips) → channelStrips d (length t) co ≡ accepted s → total t (s .first) (s .count) ≡ size
+    tested-made w k tested s h =
+        channel-page d (length t) co s h
+        (λ page p there q.
+        let z = size-is (d .dims .x) (d .dims .y) (d .kind) size e in
+        let whole : wholeChannel d t s ≡ true = rw q at (whole-tested d t page (co .c) w (tested page p) k) in
+        whole-bytes d t s whole ∙ sym (size-rows (d .dims .x) (d .dims .y) (sampleSize (d .kind))) ∙ sym (z .0))
 
-    tested-by : (m : Result ℕ) → channelStrips d (length t) scene time c z ≡ m → wholeRows d t ≡ true → c < d .dims .c
-        → ((page : ℕ) → pageOf (d .layout) scene z ≡ some page → page < pages d) → windowStrips d t len scene time c z r ≡ planeStrips d t len scene time c z
-    unfolding windowStrips bind
-    tested-by (accepted first) h w k tested = judged-alike first (tested-made w k tested first h) h
-    tested-by (refused row) h w k tested = rw (part-size, h) (strips-nowhere d t len scene time c z size row e h)
+    tested-by : (m : Result Strips) → channelStrips d (length t) co ≡ m → wholeRows d t ≡ true → co .c < d .dims .c
+        → ((page : ℕ) → pageOf (d .layout) co ≡ some page → page < pages (d .layout)) → windowStrips d t len co r ≡ planeStrips d t len co
+    unfolding windowStrips rowStrips bind
+    tested-by (accepted s) h w k tested = judged-alike s (tested-made w k tested s h) h
+    tested-by (refused row) h w k tested = rw (part-size, h) (strips-nowhere d t len co size row e h)
 
-    region-by : (b : Bool) → wholeRows d t ≡ b → c < d .dims .c → ((page : ℕ) → pageOf (d .layout) scene z ≡ some page → page < pages d)
-        → regionBy b d t len scene time c z r ≡ planeStrips d t len scene time c z
-    region-by true w k tested = tested-by (channelStrips d (length t) scene time c z) refl w k tested
+    region-by : (b : Bool) → wholeRows d t ≡ b → co .c < d .dims .c → ((page : ℕ) → pageOf (d .layout) co ≡ some page → page < pages (d .layout))
+        → regionBy b d t len co r ≡ planeStrips d t len co
+    region-by true w k tested = tested-by (channelStrips d (length t) co) refl w k tested
     region-by false w k tested = refl
 
     -- a rectangle of a page of the test is decided by plane's checks
-    pub region-plane : c < d .dims .c → ((page : ℕ) → pageOf (d .layout) scene z ≡ some page → page < pages d)
-        → regionStrips d t len scene time c z r ≡ planeStrips d t len scene time c z
+    pub region-plane : co .c < d .dims .c → ((page : ℕ) → pageOf (d .layout) co ≡ some page → page < pages (d .layout))
+        → regionStrips d t len co r ≡ planeStrips d t len co
     unfolding regionStrips
     region-plane k tested = region-by (wholeRows d t) refl k tested
 
   -- an accepted picture's rectangles are accepted, whatever its page
-  inside-by : (first : ℕ) (b : Bool) → planeStrips d t len scene time c z ≡ accepted first → regionBy b d t len scene time c z r ≡ accepted first
-  inside-by first true e =
-      let p = plane-accepted d t len scene time c z first e in
-      judged-alike (pictureBytes (d .dims .x) (d .dims .y) (d .kind)) (p .size) first (p .summed) (p .channel) ∙ e
-  inside-by first false e = e
+  inside-by : (s : Strips) (b : Bool) → planeStrips d t len co ≡ accepted s → regionBy b d t len co r ≡ accepted s
+  inside-by s true e =
+      let p = plane-accepted d t len co s e in
+      judged-alike (pictureBytes (d .dims .x) (d .dims .y) (d .kind)) (p .size) s (p .summed) (p .channel) ∙ e
+  inside-by s false e = e
 
-  region-inside : (first : ℕ) → planeStrips d t len scene time c z ≡ accepted first → regionStrips d t len scene time c z r ≡ accepted first
+  strips-inside : (s : Strips) → planeStrips d t len co ≡ accepted s → regionStrips d t len co r ≡ accepted s
   unfolding regionStrips
-  region-inside first e = inside-by first (wholeRows d t) e
+  strips-inside s e = inside-by s (wholeRows d t) e
 
 -- ---- samples
 
 -- every sample has the kind's bytes
-pub channel-even : (d : Description) (t f : List ℕ) (first : ℕ) (r : Rect) → Even (channelPicture d t f first) (sampleSize (d .kind)) r
+pub channel-even : (d : Description) (t f : List ℕ) (s : Strips) (r : Rect) → Even (channelPicture d t f s) (sampleSize (d .kind)) r
 unfolding channelPicture each
-channel-even d t f first r i j li ui lj uj = by (d .order)
+channel-even d t f s r i j li ui lj uj = by (d .order)
   where
-    by : (o : Order) → length (toLittle o (picture (stored f t first (d .stripsPerChannel)) (d .dims .x) (sampleSize (d .kind)) i j)) ≡ sampleSize (d .kind)
+    by : (o : Order) → length (toLittle o (picture (stored f t (s .first) (s .count)) (d .dims .x) (sampleSize (d .kind)) i j)) ≡ sampleSize (d .kind)
     by little = picture-length _ (d .dims .x) (sampleSize (d .kind)) i j
-    by big = length-reverse (picture (stored f t first (d .stripsPerChannel)) (d .dims .x) (sampleSize (d .kind)) i j) ∙ picture-length _ (d .dims .x) (sampleSize (d .kind)) i j
+    by big = length-reverse (picture (stored f t (s .first) (s .count)) (d .dims .x) (sampleSize (d .kind)) i j) ∙ picture-length _ (d .dims .x) (sampleSize (d .kind)) i j
 
 -- sample order, for all widths: looked at as a picture as wide as the rectangle, the answer is the channel's picture moved by x, y
-pub samples-at : (d : Description) (t f : List ℕ) (first : ℕ) (r : Rect) (i j : ℕ) → i < r .h → j < r .w
-    → picture (held (samplesIn d t f r first .bytes)) (r .w) (sampleSize (d .kind)) i j ≡ channelPicture d t f first (r .y + i) (r .x + j)
+pub samples-at : (d : Description) (t f : List ℕ) (s : Strips) (r : Rect) (i j : ℕ) → i < r .h → j < r .w
+    → picture (held (samplesIn d t f r s .bytes)) (r .w) (sampleSize (d .kind)) i j ≡ channelPicture d t f s (r .y + i) (r .x + j)
 unfolding samplesIn
-samples-at d t f first r i j hi hj = window-at (channelPicture d t f first) (sampleSize (d .kind)) r (channel-even d t f first r) i j hi hj
+samples-at d t f s r i j hi hj = window-at (channelPicture d t f s) (sampleSize (d .kind)) r (channel-even d t f s r) i j hi hj
 
-pub samples-length : (d : Description) (t f : List ℕ) (first : ℕ) (r : Rect) → length (samplesIn d t f r first .bytes) ≡ pictureBytes (r .w) (r .h) (d .kind)
+pub samples-length : (d : Description) (t f : List ℕ) (s : Strips) (r : Rect) → length (samplesIn d t f r s .bytes) ≡ pictureBytes (r .w) (r .h) (d .kind)
 unfolding samplesIn
-samples-length d t f first r =
-    window-length (channelPicture d t f first) (sampleSize (d .kind)) r (channel-even d t f first r) ∙ sym (size-rows (r .w) (r .h) (sampleSize (d .kind)))
+samples-length d t f s r =
+    window-length (channelPicture d t f s) (sampleSize (d .kind)) r (channel-even d t f s r) ∙ sym (size-rows (r .w) (r .h) (sampleSize (d .kind)))
 
 -- ---- what is accepted
 
-pub no-bytes : (l : List ℕ) → length l ≡ 0 → l ≡ []
-no-bytes [] e = refl
-no-bytes (b ∷ l) e = absurd (omega arith)
-
--- an empty rectangle has no columns or no rows, and so no samples
+-- an empty rectangle has no columns or no rows
 pub empty-then : {C : Type 0} (r : Rect) → isEmpty r ≡ true → (r .w ≡ 0 → C) → (r .h ≡ 0 → C) → C
 empty-then {C} r e narrow flat = by (eqb (r .w) 0) refl e
   where
     by : (b : Bool) → eqb (r .w) 0 ≡ b → (b || eqb (r .h) 0) ≡ true → C
     by true w h = narrow (eqb-true _ _ w)
     by false w h = flat (eqb-true _ _ h)
-
-pub empty-size : (r : Rect) (s : ℕ) → isEmpty r ≡ true → r .h * (r .w * s) ≡ 0
-empty-size r s e =
-    empty-then r e (λ z. ap (λ (k : ℕ). r .h * (k * s)) z ∙ ap (λ (k : ℕ). r .h * k) (zero-mul s) ∙ mul-zero (r .h))
-    (λ z. ap (λ (k : ℕ). k * (r .w * s)) z ∙ zero-mul (r .w * s))
-
-window-empty : (p : ℕ → ℕ → List ℕ) (s : ℕ) (r : Rect) → Even p s r → isEmpty r ≡ true → window p r ≡ []
-window-empty p s r e h = no-bytes (window p r) (window-length p s r e ∙ empty-size r s h)
 
 -- one that isn't empty has columns and rows
 pub not-empty : (r : Rect) → isEmpty r ≡ false → (0 < r .w) × (0 < r .h)
@@ -266,57 +253,63 @@ not-empty r e = by (eqb (r .w) 0) (eqb (r .h) 0) refl refl e
     by false true p q e = let z : _≡_ {A = ℕ} 0 1 = cc in absurd (omega arith)
     by false false p q e = let n = eqb-false (r .w) 0 p in let m = eqb-false (r .h) 0 q in (omega arith, omega arith)
 
-module _ (d : Description) (t f : List ℕ) (scene time c z : ℕ) where
-  -- what plane accepted
-  pub plane-then : {C : Type 0} (s : Samples) → plane d t f scene time c z ≡ accepted s
-      → ((u : Unit {0}) (first : ℕ) → coordinate d scene time c z ≡ accepted u → planeStrips d t (length f) scene time c z ≡ accepted first → samplesIn d t f (wholePicture d) first ≡ s → C) → C
-  unfolding plane
-  plane-then s e go =
-      bind-then (coordinate d scene time c z) _ s e
-      (λ u e₁ e₂.
-      bind-then (planeStrips d t (length f) scene time c z) _ s e₂
-      (λ first e₃ e₄.
-      let q : samplesIn d t f (wholePicture d) first ≡ s = cc in
-      go u first e₁ e₃ q))
+module _ (d : Description) (t : List ℕ) (len : ℕ) (co : Coordinate) where
+  -- the strips that plane accepted
+  pub plane-from-then : {C : Type 0} (s : Strips) → planeFrom d t len co ≡ accepted s
+      → ((u : Unit {0}) → coordinateThere d co ≡ accepted u → planeStrips d t len co ≡ accepted s → C) → C
+  unfolding planeFrom
+  plane-from-then s e go = bind-then (coordinateThere d co) _ s e go
 
+  -- those that region accepted: of a rectangle in the picture, which is empty or has strips
   module _ (r : Rect) where
-    -- what region accepted: a rectangle in the picture, an empty one or one that has strips
-    filled-then : {C : Type 0} (s : Samples) (b : Bool) → isEmpty r ≡ b → filledRegion b d t f scene time c z r ≡ accepted s
-        → (isEmpty r ≡ true → record { rows = r .h; columns = r .w; bytes = [] } ≡ s → C)
-        → ((first : ℕ) → isEmpty r ≡ false → regionStrips d t (length f) scene time c z r ≡ accepted first → samplesIn d t f r first ≡ s → C) → C
-    filled-then s true b e empty full = let q : record { rows = r .h; columns = r .w; bytes = [] } ≡ s = cc in empty b q
-    filled-then s false b e empty full =
-        bind-then (regionStrips d t (length f) scene time c z r) _ s e
-        (λ first e₁ e₂. let q : samplesIn d t f r first ≡ s = cc in full first b e₁ q)
+    filled-then : {C : Type 0} (s : Strips) (b : Bool) → isEmpty r ≡ b → filledStrips b d t len co r ≡ accepted s
+        → (isEmpty r ≡ true → noStrips ≡ s → C) → (isEmpty r ≡ false → regionStrips d t len co r ≡ accepted s → C) → C
+    filled-then s true b e empty full = let q : noStrips ≡ s = cc in empty b q
+    filled-then s false b e empty full = full b e
 
-    pub region-then : {C : Type 0} (s : Samples) → region d t f scene time c z r ≡ accepted s
-        → ((u v : Unit {0}) → coordinate d scene time c z ≡ accepted u → rectangle (d .dims) r ≡ accepted v → isEmpty r ≡ true
-        → record { rows = r .h; columns = r .w; bytes = [] } ≡ s → C)
-        → ((u v : Unit {0}) (first : ℕ) → coordinate d scene time c z ≡ accepted u → rectangle (d .dims) r ≡ accepted v → isEmpty r ≡ false
-        → regionStrips d t (length f) scene time c z r ≡ accepted first → samplesIn d t f r first ≡ s → C) → C
-    unfolding region
-    region-then s e empty full =
-        bind-then (coordinate d scene time c z) _ s e
+    pub region-from-then : {C : Type 0} (s : Strips) → regionFrom d t len co r ≡ accepted s
+        → ((u v : Unit {0}) → coordinateThere d co ≡ accepted u → rectangle (d .dims) r ≡ accepted v → isEmpty r ≡ true → noStrips ≡ s → C)
+        → ((u v : Unit {0}) → coordinateThere d co ≡ accepted u → rectangle (d .dims) r ≡ accepted v → isEmpty r ≡ false → regionStrips d t len co r ≡ accepted s → C)
+        → C
+    unfolding regionFrom
+    region-from-then s e empty full =
+        bind-then (coordinateThere d co) _ s e
         (λ u e₁ e₂.
         bind-then (rectangle (d .dims) r) _ s e₂
-        (λ v e₃ e₄. filled-then s (isEmpty r) refl e₄ (λ i q. empty u v e₁ e₃ i q) (λ first i h q. full u v first e₁ e₃ i h q)))
+        (λ v e₃ e₄. filled-then s (isEmpty r) refl e₄ (empty u v e₁ e₃) (full u v e₁ e₃)))
 
     -- a rectangle inside an accepted picture is accepted
-    filled-inside : (v : Unit {0}) (first : ℕ) (b : Bool) → isEmpty r ≡ b → rectangle (d .dims) r ≡ accepted v
-        → planeStrips d t (length f) scene time c z ≡ accepted first → filledRegion b d t f scene time c z r ≡ accepted (samplesIn d t f r first)
-    unfolding samplesIn bind
-    filled-inside v first true i h p =
-        ap (λ (l : List ℕ). accepted (record { rows = r .h; columns = r .w; bytes = l }))
-        (sym (window-empty (channelPicture d t f first) (sampleSize (d .kind)) r (channel-even d t f first r) i))
-    filled-inside v first false i h p =
+    filled-inside : {C : Type 0} (v : Unit {0}) (s : Strips) (b : Bool) → isEmpty r ≡ b → rectangle (d .dims) r ≡ accepted v
+        → planeStrips d t len co ≡ accepted s → ((a : Strips) → filledStrips b d t len co r ≡ accepted a → C) → C
+    filled-inside v s true i h p go = go noStrips refl
+    filled-inside v s false i h p go =
         let w = rectangle-within (d .dims) r v h in
-        let q : regionStrips d t (length f) scene time c z r ≡ accepted first =
-        region-inside d t (length f) scene time c z r (w .0) (w .1) (not-empty r i .1) first p in
-        rw q
+        go s (strips-inside d t len co r (w .0) (w .1) (not-empty r i .1) s p)
 
-    pub rectangle-accepted : (s : Samples) (v : Unit {0}) → plane d t f scene time c z ≡ accepted s → rectangle (d .dims) r ≡ accepted v
-        → {C : Type 0} → ((a : Samples) → region d t f scene time c z r ≡ accepted a → C) → C
+    pub rectangle-from : {C : Type 0} (s : Strips) (v : Unit {0}) → planeFrom d t len co ≡ accepted s → rectangle (d .dims) r ≡ accepted v
+        → ((a : Strips) → regionFrom d t len co r ≡ accepted a → C) → C
+    unfolding regionFrom bind
+    rectangle-from s v e h go = plane-from-then s e (λ u k p. filled-inside v s (isEmpty r) refl h p (λ a q. go a (rw (k, h) q)))
+
+module _ (d : Description) (t f : List ℕ) (co : Coordinate) where
+  -- what plane and region gave: samples of the strips that they are read from
+  pub plane-then : {C : Type 0} (a : Samples) → plane d t f co ≡ accepted a
+      → ((s : Strips) → planeFrom d t (length f) co ≡ accepted s → samplesIn d t f (wholePicture d) s ≡ a → C) → C
+  unfolding plane
+  plane-then a e go =
+      bind-then (planeFrom d t (length f) co) _ a e
+      (λ s e₁ e₂. let q : samplesIn d t f (wholePicture d) s ≡ a = cc in go s e₁ q)
+
+  module _ (r : Rect) where
+    pub region-then : {C : Type 0} (a : Samples) → region d t f co r ≡ accepted a
+        → ((s : Strips) → regionFrom d t (length f) co r ≡ accepted s → samplesIn d t f r s ≡ a → C) → C
+    unfolding region
+    region-then a e go =
+        bind-then (regionFrom d t (length f) co r) _ a e
+        (λ s e₁ e₂. let q : samplesIn d t f r s ≡ a = cc in go s e₁ q)
+
+    pub rectangle-accepted : {C : Type 0} (a : Samples) (v : Unit {0}) → plane d t f co ≡ accepted a → rectangle (d .dims) r ≡ accepted v
+        → ((b : Samples) → region d t f co r ≡ accepted b → C) → C
     unfolding region bind
-    rectangle-accepted s v e h go =
-        plane-then s e
-        (λ u first k p q. go (samplesIn d t f r first) (rw (k, h) (filled-inside v first (isEmpty r) refl h p)))
+    rectangle-accepted a v e h go =
+        plane-then a e (λ s p q. rectangle-from d t (length f) co r s v p h (λ b k. go (samplesIn d t f r b) (rw k)))

@@ -10,7 +10,8 @@ use lib.Dec.{T, ltb}
 use borrow.Author.Tests.{lt-ltb, le-ltb, ltb-true, ltb-false}
 use Rattle.lsm_format.specs.Answer.{accepted, refused, bind, decode}
 use Rattle.lsm_format.specs.Words.{word}
-use Rattle.lsm_format.specs.Scenes.{Layout, count, scenes, layout, pageOf}
+use Rattle.lsm_format.specs.Rectangle.{Coordinate}
+use Rattle.lsm_format.specs.Scenes.{Layout, count, scenes, layout, pageNumber, pageOf}
 use Rattle.lsm_format.proofs.Words.{word-over, word-none, word-some}
 
 -- a count below 0, and one that is not
@@ -38,31 +39,30 @@ module _ (p m : ℤ) (depth : ℕ) where
   layout-is a b n h k e = rw (h, k, e, layout, scenes, bind)
 
 -- the page of a picture: no such scene; a product or a sum that overflows; the page
-module _ (l : Layout) (scene z : ℕ) where
-  pub page-outside : l .scenes ≤ scene → none ≡ pageOf l scene z
+module _ (l : Layout) (co : Coordinate) where
+  pub page-outside : l .scenes ≤ co .scene → none ≡ pageOf l co
   unfolding pageOf
-  page-outside h = rw (le-ltb scene (l .scenes) h, pageOf)
+  page-outside h = rw (le-ltb (co .scene) (l .scenes) h, pageOf)
 
-  page-inside : scene < l .scenes → pageOf l scene z ≡ word (scene * l .depth + z)
+  page-inside : co .scene < l .scenes → pageOf l co ≡ word (pageNumber l co)
   unfolding pageOf
-  page-inside h = rw (lt-ltb scene (l .scenes) h, pageOf)
+  page-inside h = rw (lt-ltb (co .scene) (l .scenes) h, pageOf)
 
-  pub page-over : scene < l .scenes → word (scene * l .depth) ≡ none → none ≡ pageOf l scene z
+  pub page-over : co .scene < l .scenes → word (co .scene * l .depth) ≡ none → none ≡ pageOf l co
   page-over h e = rw (page-inside h) (sym (word-over (omega (arith, word-none _ e))))
 
-  pub page-at : scene < l .scenes → (first : ℕ) → word (scene * l .depth) ≡ some first → word (first + z) ≡ pageOf l scene z
+  pub page-at : co .scene < l .scenes → (first : ℕ) → word (co .scene * l .depth) ≡ some first → word (first + co .z) ≡ pageOf l co
   page-at h first e = rw (page-inside h, word-some _ _ e .0)
 
   -- a page that there is
-  page-by : (b : Bool) (page : ℕ) → ltb scene (l .scenes) ≡ b → pageOf l scene z ≡ some page →
-      (scene < l .scenes) × (page ≡ scene * l .depth + z)
+  page-by : (b : Bool) (page : ℕ) → ltb (co .scene) (l .scenes) ≡ b → pageOf l co ≡ some page → (co .scene < l .scenes) × (page ≡ pageNumber l co)
   page-by true page t e =
-      let h : scene < l .scenes = ltb-true _ _ t in
+      let h : co .scene < l .scenes = ltb-true _ _ t in
       (h, word-some _ _ (sym (page-inside h) ∙ e) .0)
   page-by false page t e =
-      let n : none ≡ pageOf l scene z = page-outside (ltb-false _ _ t) in
+      let n : none ≡ pageOf l co = page-outside (ltb-false _ _ t) in
       let z : _≡_ {A = ℕ} 0 1 = cc in
       absurd (omega arith)
 
-  pub page-some : (page : ℕ) → pageOf l scene z ≡ some page → (scene < l .scenes) × (page ≡ scene * l .depth + z)
-  page-some page e = page-by (ltb scene (l .scenes)) page refl e
+  pub page-some : (page : ℕ) → pageOf l co ≡ some page → (co .scene < l .scenes) × (page ≡ pageNumber l co)
+  page-some page e = page-by (ltb (co .scene) (l .scenes)) page refl e

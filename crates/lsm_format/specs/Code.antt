@@ -8,6 +8,7 @@ use lib.ListN.{length, replicate}
 use Rattle.lsm_format.specs.Answer.{Result, accepted, refused, parse, decode, unsupported, oversizedAllocation, sceneOutOfRange, outOfRange, tooShort}
 use Rattle.lsm_format.specs.Numbers.{Order, little, big}
 use Rattle.lsm_format.specs.Sizes.{Kind, u8, u16, i16, f32}
+use Rattle.lsm_format.specs.Rectangle as Rule
 use Rattle.lsm_format.specs.Rectangle.{Dims, Rect}
 use Rattle.lsm_format.specs.declared.checked.Word.{Word}
 use Rattle.lsm_format.specs.declared.checked.Word.the-variants.{Value, Overflow}
@@ -21,6 +22,7 @@ use Rattle.lsm_format.specs.declared.types.ChannelBlock.{ChannelBlock}
 use Rattle.lsm_format.specs.declared.types.ChannelBlock.the-variants.{Absent, At}
 use Rattle.lsm_format.specs.declared.types.Dims5.{Dims5}
 use Rattle.lsm_format.specs.declared.types.PixelRect.{PixelRect}
+use Rattle.lsm_format.specs.declared.types.Coordinate.{Coordinate}
 use Rattle.lsm_format.specs.declared.types.PlaneBytes.{PlaneBytes}
 use Rattle.lsm_format.specs.declared.types.PlaneBytes.the-variants.{Bytes, Refused}
 use Rattle.lsm_format.specs.declared.error.Check.{Check}
@@ -56,6 +58,9 @@ dimsOf d = record { t = d .t; c = d .c; z = d .z; y = d .y; x = d .x }
 
 abbrev pub rectOf : PixelRect → Rect
 rectOf r = record { x = r .x; y = r .y; w = r .w; h = r .h }
+
+abbrev pub coordinateOf : Coordinate → Rule.Coordinate
+coordinateOf co = record { scene = co .scene; t = co .t; c = co .c; z = co .z }
 
 abbrev pub blockOf : ChannelBlock → Option ℕ
 blockOf Absent = none

@@ -1,14 +1,13 @@
 -- Document 01's list, "The bytes that are read", drawn up from one file: the whole list, and the one of a single rectangle.
-use Prim.Native.Nat.{ℕ, zero, suc, _+_, _*_}
-use mathlib.Core.Bool.{Bool, true, false}
+use Prim.Native.Nat.{ℕ, zero, suc}
 use mathlib.Core.List.{List, [], _∷_}
 use lib.ListN.{length}
 use Rattle.lsm_format.specs.Ranges.{Ranges, none, at, both, over, inFile}
 use Rattle.lsm_format.specs.Sizes.{sampleSize}
-use Rattle.lsm_format.specs.Rectangle.{Rect, rectangle, isEmpty}
+use Rattle.lsm_format.specs.Rectangle.{Rect, Coordinate}
 use Rattle.lsm_format.specs.Channels.{channelsRanges}
 use Rattle.lsm_format.specs.Open.{Description, read, openRanges}
-use Rattle.lsm_format.specs.Picture.{place, coordinate, regionStrips}
+use Rattle.lsm_format.specs.Picture.{Strips, place, samplePlace, regionFrom}
 
 -- ---- the whole list
 
@@ -34,30 +33,21 @@ unfoldable pub spanRanges : ℕ → ℕ → (ℕ → Ranges) → Ranges
 spanRanges a zero r = none
 spanRanges a (suc n) r = both (r a) (spanRanges (suc a) n r)
 
--- A sample's bytes, "stored at (row × width + column) × sample size" of the channel's joined strips, each at its place in the file.
-unfoldable pub sampleRanges : Description → List ℕ → ℕ → ℕ → ℕ → Ranges
-sampleRanges d table first row column =
-    spanRanges ((row * d .dims .x + column) * sampleSize (d .kind)) (sampleSize (d .kind))
-    (λ k. at (place table first (d .stripsPerChannel) k) 1)
+-- A sample's bytes, each at its place in the file.
+unfoldable pub sampleRanges : Description → List ℕ → Strips → ℕ → ℕ → Ranges
+sampleRanges d table s row column =
+    spanRanges (samplePlace (d .dims .x) (sampleSize (d .kind)) row column) (sampleSize (d .kind))
+    (λ k. at (place table (s .first) (s .count) k) 1)
 
--- "of the strips only the places of its samples in the channel's joined strips"
-unfoldable pub windowRanges : Description → List ℕ → Rect → ℕ → Ranges
-windowRanges d table r first =
-    spanRanges (r .y) (r .h) (λ row. spanRanges (r .x) (r .w) (λ column. sampleRanges d table first row column))
+-- "of the strips only the places of its samples in the channel's joined strips"; an empty rectangle has none
+unfoldable pub windowRanges : Description → List ℕ → Rect → Strips → Ranges
+windowRanges d table r s = spanRanges (r .y) (r .h) (λ row. spanRanges (r .x) (r .w) (λ column. sampleRanges d table s row column))
 
--- An empty rectangle has no samples.
-abbrev pub filledRanges : Bool → Description → List ℕ → List ℕ → ℕ → ℕ → ℕ → ℕ → Rect → Ranges
-filledRanges true d table f scene t c z r = none
-filledRanges false d table f scene t c z r =
-    over (regionStrips d table (length f) scene t c z r) (λ first. windowRanges d table r first)
-
--- "none if it isn't accepted": the checks of region in their order; the room in the buffer isn't among them, since "accepted means not
--- refused, or refused with 7 only".
-unfoldable pub regionRanges : Description → List ℕ → List ℕ → ℕ → ℕ → ℕ → ℕ → Rect → Ranges
-regionRanges d table f scene t c z r =
-    over (coordinate d scene t c z) (λ _. over (rectangle (d .dims) r) (λ _. filledRanges (isEmpty r) d table f scene t c z r))
+-- "none if it isn't accepted". The room in the buffer isn't among region's checks here, since "accepted means not refused, or refused with 7
+-- only".
+unfoldable pub regionRanges : Description → List ℕ → List ℕ → Coordinate → Rect → Ranges
+regionRanges d table f co r = over (regionFrom d table (length f) co r) (λ s. windowRanges d table r s)
 
 -- "For one rectangle, of the strips only the places of its samples [..]; opening and that rectangle's call then answer alike."
-unfoldable pub listedFor : List ℕ → ℕ → ℕ → ℕ → ℕ → Rect → Ranges
-listedFor f scene t c z r =
-    both (openRanges f) (over (read f) (λ x. regionRanges (x .description) (x .table) f scene t c z r))
+unfoldable pub listedFor : List ℕ → Coordinate → Rect → Ranges
+listedFor f co r = both (openRanges f) (over (read f) (λ x. regionRanges (x .description) (x .table) f co r))

@@ -4,11 +4,11 @@ use mathlib.Core.Bool.{Bool, true, false, not, _&&_}
 use mathlib.Core.List.{List, [], _∷_, _++_, reverse}
 use lib.Dec.{leb, ltb, eqb}
 use lib.ListN.{length, getD}
-use Rattle.lsm_format.specs.Answer.{Result, accepted, refused, bind, need, given, decode, sceneOutOfRange, outOfRange}
+use Rattle.lsm_format.specs.Answer.{Result, accepted, refused, bind, need, given, decode, sceneOutOfRange}
 use Rattle.lsm_format.specs.Numbers.{Order, little, big}
 use Rattle.lsm_format.specs.Sizes.{sampleSize, pictureSize}
-use Rattle.lsm_format.specs.Rectangle.{Rect, coordinates, rectangle, isEmpty}
-use Rattle.lsm_format.specs.Scenes.{pageOf}
+use Rattle.lsm_format.specs.Rectangle.{Rect, Coordinate, noPicture, coordinates, rectangle, isEmpty}
+use Rattle.lsm_format.specs.Scenes.{pages, pageOf}
 use Rattle.lsm_format.specs.Lent.{lend, filled}
 use Rattle.lsm_format.specs.Open.{Description}
 
@@ -36,10 +36,23 @@ place table i (suc n) k =
 unfoldable pub stored : List ℕ → List ℕ → ℕ → ℕ → ℕ → ℕ
 stored f table i n k = getD f (place table i n k) 0
 
--- "each within the file": the sum is reckoned exactly, so "a strip whose offset plus length overflows" passes its end too.
+-- A strip that lies "within the file": the sum is reckoned exactly, so "a strip whose offset plus length overflows" passes its end too.
+abbrev pub lies : List ℕ → ℕ → ℕ → Bool
+lies table len i = leb (offsetOf table i + countOf table i) len
+
+-- All of the n strips from strip i on do.
 unfoldable pub inside : List ℕ → ℕ → ℕ → ℕ → Bool
 inside table len i zero = true
-inside table len i (suc n) = leb (offsetOf table i + countOf table i) len && inside table len (i + 1) n
+inside table len i (suc n) = lies table len i && inside table len (i + 1) n
+
+-- "strips in turn, each within the file, then within the picture's size; their total": the n strips from strip i on, with so many bytes
+-- still to come. A strip outside the file is refused with the one row, and bytes that are too many or too few with the other.
+unfoldable pub inTurn : List ℕ → List ℕ → List ℕ → ℕ → ℕ → ℕ → ℕ → Result (Unit {0})
+inTurn outside miscounted table len i zero left = need miscounted (eqb left 0)
+inTurn outside miscounted table len i (suc n) left =
+    bind (need outside (lies table len i)) (λ _.
+    bind (need miscounted (leb (countOf table i) left)) (λ _.
+    inTurn outside miscounted table len (i + 1) n (left - countOf table i)))
 
 -- ---- a picture
 
@@ -52,21 +65,29 @@ span a (suc n) g = g a ++ span (suc a) n g
 unfoldable pub bytes : (ℕ → ℕ) → ℕ → ℕ → List ℕ
 bytes f a n = span a n (λ k. f k ∷ [])
 
--- "the channel's joined strips, with the sample at row, column stored at (row × width + column) × sample size". A picture gives for
--- a row and a column the sample's bytes; byte k of the joined strips is f k.
-unfoldable pub picture : (ℕ → ℕ) → ℕ → ℕ → ℕ → ℕ → List ℕ
-picture f width size row column = bytes f ((row * width + column) * size) size
+-- A picture gives for a row and a column the sample's bytes.
+abbrev pub Picture : Type 0
+Picture = ℕ → ℕ → List ℕ
+
+-- "the sample at row, column stored at (row × width + column) × sample size"
+abbrev pub samplePlace : ℕ → ℕ → ℕ → ℕ → ℕ
+samplePlace width size row column = (row * width + column) * size
+
+-- "the channel's joined strips", of which byte k is f k, as a picture so many samples wide, of so many bytes each.
+unfoldable pub picture : (ℕ → ℕ) → ℕ → ℕ → Picture
+picture f width size row column = bytes f (samplePlace width size row column) size
 
 -- "little-endian whatever the file's order"
 abbrev pub toLittle : Order → List ℕ → List ℕ
 toLittle little sample = sample
 toLittle big sample = reverse sample
 
-unfoldable pub each : (List ℕ → List ℕ) → (ℕ → ℕ → List ℕ) → ℕ → ℕ → List ℕ
+-- A picture with every sample changed.
+unfoldable pub each : (List ℕ → List ℕ) → Picture → Picture
 each change p row column = change (p row column)
 
 -- "Samples lie row by row": those of a rectangle of a picture.
-unfoldable pub window : (ℕ → ℕ → List ℕ) → Rect → List ℕ
+unfoldable pub window : Picture → Rect → List ℕ
 window p r = span (r .y) (r .h) (λ row. span (r .x) (r .w) (p row))
 
 -- ---- pages
@@ -79,31 +100,42 @@ stripsPerPage d = d .dims .c * d .stripsPerChannel
 abbrev pub hasPage : Description → ℕ → ℕ → Bool
 hasPage d words page = not (eqb (stripsPerPage d) 0) && leb (2 * ((page + 1) * stripsPerPage d)) words
 
--- The first strip of a page's channel.
-abbrev pub firstStrip : Description → ℕ → ℕ → ℕ
-firstStrip d page c = page * stripsPerPage d + c * d .stripsPerChannel
+-- So many strips of the table, from the first on.
+pub record Strips : Type 0 where
+  pub first : ℕ
+  pub count : ℕ
 
--- "page" of "Order of checks": "A page number that overflows, no strips per page, or a page not wholly in the table [..] is 6".
-unfoldable pub channelStrips : Description → ℕ → ℕ → ℕ → ℕ → ℕ → Result ℕ
-channelStrips d words scene t c z =
-    bind (given (outOfRange scene t c z) (pageOf (d .layout) scene z)) (λ page.
-    bind (need (outOfRange scene t c z) (hasPage d words page)) (λ _. accepted (firstStrip d page c)))
+-- The strips of a page's channel.
+abbrev pub stripsOn : Description → ℕ → ℕ → Strips
+stripsOn d page c = record { first = page * stripsPerPage d + c * d .stripsPerChannel; count = d .stripsPerChannel }
+
+-- "page" of "Order of checks": "A page number that overflows, no strips per page, or a page not wholly in the table [..] is 6". Which strips
+-- the picture is read from.
+unfoldable pub channelStrips : Description → ℕ → Coordinate → Result Strips
+channelStrips d words co =
+    bind (given (noPicture co) (pageOf (d .layout) co)) (λ page.
+    bind (need (noPicture co) (hasPage d words page)) (λ _. accepted (stripsOn d page (co .c))))
 
 -- ---- plane
 
--- "scene; t, c, z"
-unfoldable pub coordinate : Description → ℕ → ℕ → ℕ → ℕ → Result (Unit {0})
-coordinate d scene t c z =
-    bind (need (sceneOutOfRange scene (d .layout .scenes)) (ltb scene (d .layout .scenes))) (λ _. coordinates (d .dims) scene t c z)
+unfoldable pub sceneThere : Description → ℕ → Result (Unit {0})
+sceneThere d scene = need (sceneOutOfRange scene (d .layout .scenes)) (ltb scene (d .layout .scenes))
 
--- "size; page; strips in turn, each within the file, then within the picture's size; their total": the first of the channel's strips.
--- All that is asked of the strips is 2 where it fails; a total that is the size keeps every strip within it.
-unfoldable pub planeStrips : Description → List ℕ → ℕ → ℕ → ℕ → ℕ → ℕ → Result ℕ
-planeStrips d table len scene t c z =
+-- "scene; t, c, z"
+unfoldable pub coordinateThere : Description → Coordinate → Result (Unit {0})
+coordinateThere d co = bind (sceneThere d (co .scene)) (λ _. coordinates (d .dims) co)
+
+-- "size; page; strips in turn, each within the file, then within the picture's size; their total". All that is asked of the strips is 2
+-- where it fails.
+unfoldable pub planeStrips : Description → List ℕ → ℕ → Coordinate → Result Strips
+planeStrips d table len co =
     bind (pictureSize (d .dims .x) (d .dims .y) (d .kind)) (λ size.
-    bind (channelStrips d (length table) scene t c z) (λ first.
-    bind (need decode (inside table len first (d .stripsPerChannel))) (λ _.
-    bind (need decode (eqb (total table first (d .stripsPerChannel)) size)) (λ _. accepted first))))
+    bind (channelStrips d (length table) co) (λ s.
+    bind (inTurn decode decode table len (s .first) (s .count) size) (λ _. accepted s)))
+
+-- All of plane's checks but the buffer's: the strips that the picture is read from.
+unfoldable pub planeFrom : Description → List ℕ → ℕ → Coordinate → Result Strips
+planeFrom d table len co = bind (coordinateThere d co) (λ _. planeStrips d table len co)
 
 -- What plane and region give: how many rows and columns, and the samples' bytes.
 pub record Samples : Type 0 where
@@ -111,21 +143,19 @@ pub record Samples : Type 0 where
   pub columns : ℕ
   pub bytes : List ℕ
 
--- The picture of the channel's strips from the first on, and a rectangle of it.
-unfoldable pub channelPicture : Description → List ℕ → List ℕ → ℕ → ℕ → ℕ → List ℕ
-channelPicture d table f first =
-    each (toLittle (d .order)) (picture (stored f table first (d .stripsPerChannel)) (d .dims .x) (sampleSize (d .kind)))
+-- The picture of these strips, and a rectangle of it.
+unfoldable pub channelPicture : Description → List ℕ → List ℕ → Strips → Picture
+channelPicture d table f s =
+    each (toLittle (d .order)) (picture (stored f table (s .first) (s .count)) (d .dims .x) (sampleSize (d .kind)))
 
-unfoldable pub samplesIn : Description → List ℕ → List ℕ → Rect → ℕ → Samples
-samplesIn d table f r first = record { rows = r .h; columns = r .w; bytes = window (channelPicture d table f first) r }
+unfoldable pub samplesIn : Description → List ℕ → List ℕ → Rect → Strips → Samples
+samplesIn d table f r s = record { rows = r .h; columns = r .w; bytes = window (channelPicture d table f s) r }
 
 abbrev pub wholePicture : Description → Rect
 wholePicture d = record { x = 0; y = 0; w = d .dims .x; h = d .dims .y }
 
-unfoldable pub plane : Description → List ℕ → List ℕ → ℕ → ℕ → ℕ → ℕ → Result Samples
-plane d table f scene t c z =
-    bind (coordinate d scene t c z) (λ _.
-    bind (planeStrips d table (length f) scene t c z) (λ first. accepted (samplesIn d table f (wholePicture d) first)))
+unfoldable pub plane : Description → List ℕ → List ℕ → Coordinate → Result Samples
+plane d table f co = bind (planeFrom d table (length f) co) (λ s. accepted (samplesIn d table f (wholePicture d) s))
 
 -- ---- whole rows
 
@@ -142,29 +172,30 @@ rowsIn row table i zero = 0
 rowsIn row table i (suc n) = countOf table i / row + rowsIn row table (i + 1) n
 
 -- "and each channel's rows to add up to the height": reckoned exactly, so that rows that overflow 64 bits don't.
-unfoldable pub wholeChannel : Description → List ℕ → ℕ → Bool
-wholeChannel d table first =
-    wholeStrips (rowBytes d) table first (d .stripsPerChannel)
-    && eqb (rowsIn (rowBytes d) table first (d .stripsPerChannel)) (d .dims .y)
+unfoldable pub wholeChannel : Description → List ℕ → Strips → Bool
+wholeChannel d table s =
+    wholeStrips (rowBytes d) table (s .first) (s .count) && eqb (rowsIn (rowBytes d) table (s .first) (s .count)) (d .dims .y)
 
 -- "and all channels": the first n of a page.
 unfoldable pub wholeChannels : Description → List ℕ → ℕ → ℕ → Bool
 wholeChannels d table page zero = true
-wholeChannels d table page (suc n) = wholeChannels d table page n && wholeChannel d table (firstStrip d page n)
+wholeChannels d table page (suc n) = wholeChannels d table page n && wholeChannel d table (stripsOn d page n)
 
--- "a page missing from the table [..] means no": the first n pages.
+-- "a page missing from the table [..] means no"
+abbrev pub wholePage : Description → List ℕ → ℕ → Bool
+wholePage d table page = hasPage d (length table) page && wholeChannels d table page (d .dims .c)
+
+-- The first n pages.
 unfoldable pub wholePages : Description → List ℕ → ℕ → Bool
 wholePages d table zero = true
-wholePages d table (suc n) =
-    wholePages d table n && (hasPage d (length table) n && wholeChannels d table n (d .dims .c))
+wholePages d table (suc n) = wholePages d table n && wholePage d table n
 
 -- "The whole-row test [..] runs over pages 0 to scenes × depth − 1 and all channels; a page missing from the table, or an overflow,
 -- means no"; "a row of 0 bytes means no".
 unfoldable pub wholeRows : Description → List ℕ → Bool
 wholeRows d table =
     not (eqb (rowBytes d) 0)
-    && (ltb (rowBytes d) (2 ^ 64)
-    && (ltb (d .layout .scenes * d .layout .depth) (2 ^ 64) && wholePages d table (d .layout .scenes * d .layout .depth)))
+    && (ltb (rowBytes d) (2 ^ 64) && (ltb (pages (d .layout)) (2 ^ 64) && wholePages d table (pages (d .layout))))
 
 -- ---- region
 
@@ -172,35 +203,42 @@ wholeRows d table =
 abbrev pub windowEnd : Description → Rect → ℕ
 windowEnd d r = (r .y + r .h - 1) * rowBytes d + (r .x + r .w) * sampleSize (d .kind)
 
--- "the rectangle's size, the page, and all the channel's strips within the file". The last line always holds for the pages of the test,
--- whose strips hold all rows of the picture. Past them, where only a handed-in description leads, a sample may be missing: "an outcome that
--- they leave free", and it is 2.
-unfoldable pub windowStrips : Description → List ℕ → ℕ → ℕ → ℕ → ℕ → ℕ → Rect → Result ℕ
-windowStrips d table len scene t c z r =
-    bind (pictureSize (r .w) (r .h) (d .kind)) (λ _.
-    bind (channelStrips d (length table) scene t c z) (λ first.
-    bind (need decode (inside table len first (d .stripsPerChannel))) (λ _.
-    bind (need decode (leb (windowEnd d r) (total table first (d .stripsPerChannel)))) (λ _. accepted first))))
+-- "the page, and all the channel's strips within the file". The last line always holds for the pages of the test, whose strips hold all
+-- rows of the picture. Past them, where only a handed-in description leads, a sample may be missing: "an outcome that they leave free", and
+-- it is 2.
+unfoldable pub rowStrips : Description → List ℕ → ℕ → Coordinate → Rect → Result Strips
+rowStrips d table len co r =
+    bind (channelStrips d (length table) co) (λ s.
+    bind (need decode (inside table len (s .first) (s .count))) (λ _.
+    bind (need decode (leb (windowEnd d r) (total table (s .first) (s .count)))) (λ _. accepted s)))
+
+-- "the rectangle's size" before them
+unfoldable pub windowStrips : Description → List ℕ → ℕ → Coordinate → Rect → Result Strips
+windowStrips d table len co r = bind (pictureSize (r .w) (r .h) (d .kind)) (λ _. rowStrips d table len co r)
 
 -- "then, where every page's strips hold whole rows, [..]; otherwise all of plane's checks"
-abbrev pub regionBy : Bool → Description → List ℕ → ℕ → ℕ → ℕ → ℕ → ℕ → Rect → Result ℕ
-regionBy true d table len scene t c z r = windowStrips d table len scene t c z r
-regionBy false d table len scene t c z r = planeStrips d table len scene t c z
+abbrev pub regionBy : Bool → Description → List ℕ → ℕ → Coordinate → Rect → Result Strips
+regionBy true d table len co r = windowStrips d table len co r
+regionBy false d table len co r = planeStrips d table len co
 
-unfoldable pub regionStrips : Description → List ℕ → ℕ → ℕ → ℕ → ℕ → ℕ → Rect → Result ℕ
-regionStrips d table len scene t c z r = regionBy (wholeRows d table) d table len scene t c z r
+unfoldable pub regionStrips : Description → List ℕ → ℕ → Coordinate → Rect → Result Strips
+regionStrips d table len co r = regionBy (wholeRows d table) d table len co r
 
--- "An in-bounds rectangle of width or height 0 is accepted empty with its shape."
-abbrev pub filledRegion : Bool → Description → List ℕ → List ℕ → ℕ → ℕ → ℕ → ℕ → Rect → Result Samples
-filledRegion true d table f scene t c z r = accepted (record { rows = r .h; columns = r .w; bytes = [] })
-filledRegion false d table f scene t c z r =
-    bind (regionStrips d table (length f) scene t c z r) (λ first. accepted (samplesIn d table f r first))
+-- "An in-bounds rectangle of width or height 0 is accepted empty with its shape": it is read from no strips.
+abbrev pub noStrips : Strips
+noStrips = record { first = 0; count = 0 }
 
--- "Region: scene; t, c, z; rectangle; empty; then [..]"
-unfoldable pub region : Description → List ℕ → List ℕ → ℕ → ℕ → ℕ → ℕ → Rect → Result Samples
-region d table f scene t c z r =
-    bind (coordinate d scene t c z) (λ _.
-    bind (rectangle (d .dims) r) (λ _. filledRegion (isEmpty r) d table f scene t c z r))
+abbrev pub filledStrips : Bool → Description → List ℕ → ℕ → Coordinate → Rect → Result Strips
+filledStrips true d table len co r = accepted noStrips
+filledStrips false d table len co r = regionStrips d table len co r
+
+-- "Region: scene; t, c, z; rectangle; empty; then [..]": all checks but the buffer's.
+unfoldable pub regionFrom : Description → List ℕ → ℕ → Coordinate → Rect → Result Strips
+regionFrom d table len co r =
+    bind (coordinateThere d co) (λ _. bind (rectangle (d .dims) r) (λ _. filledStrips (isEmpty r) d table len co r))
+
+unfoldable pub region : Description → List ℕ → List ℕ → Coordinate → Rect → Result Samples
+region d table f co r = bind (regionFrom d table (length f) co r) (λ s. accepted (samplesIn d table f r s))
 
 -- ---- the sample buffer
 

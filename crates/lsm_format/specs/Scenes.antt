@@ -6,6 +6,7 @@ use lib.Dec.{ltb}
 use lib.IntN.{ℤ, pos, negsuc}
 use Rattle.lsm_format.specs.Answer.{Result, accepted, refused, bind, given, decode}
 use Rattle.lsm_format.specs.Words.{word}
+use Rattle.lsm_format.specs.Rectangle.{Coordinate}
 
 -- "Negative P or M is Decode."
 abbrev pub count : ℤ → Result ℕ
@@ -24,10 +25,18 @@ pub record Layout : Type 0 where
 unfoldable pub layout : ℤ → ℤ → ℕ → Result Layout
 layout p m depth = bind (scenes p m) (λ n. accepted (record { scenes = n; depth = depth }))
 
+-- "scenes × depth", reckoned exactly: the pages of all scenes.
+abbrev pub pages : Layout → ℕ
+pages l = l .scenes * l .depth
+
 -- "Pages expected are scenes × depth; overflow is Decode."
 unfoldable pub pagesExpected : Layout → Result ℕ
-pagesExpected l = given decode (word (l .scenes * l .depth))
+pagesExpected l = given decode (word (pages l))
 
--- "Page of a picture: scene × depth + z." There is none for a scene that is not there, and none where the number overflows.
-unfoldable pub pageOf : Layout → ℕ → ℕ → Option ℕ
-pageOf l scene z = elim (ltb scene (l .scenes)) [ true ↦ word (scene * l .depth + z) | false ↦ none ]
+-- "Page of a picture: scene × depth + z", reckoned exactly.
+abbrev pub pageNumber : Layout → Coordinate → ℕ
+pageNumber l co = co .scene * l .depth + co .z
+
+-- There is none for a scene that is not there, and none where the number overflows.
+unfoldable pub pageOf : Layout → Coordinate → Option ℕ
+pageOf l co = elim (ltb (co .scene) (l .scenes)) [ true ↦ word (pageNumber l co) | false ↦ none ]

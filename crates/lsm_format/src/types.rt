@@ -8,7 +8,7 @@ use crate::guard::MAX_DECODED_PLANE_BYTES;
 ghost use mathlib.Core.Path.{_≡_};
 ghost use Rattle.lsm_format.specs.Code.{kindOf, dimsOf, rectOf, bytesOf, checkOf};
 ghost use Rattle.lsm_format.specs.Sizes.{sampleSize, unlimitedSize, pictureSize};
-ghost use Rattle.lsm_format.specs.Rectangle.{isEmpty, within, coordinates, rectangle, region};
+ghost use Rattle.lsm_format.specs.Rectangle.{isEmpty, within, coordinate, coordinates, rectangle, inPicture};
 
 // Byte order of the file.
 pub enum Endian {
@@ -125,9 +125,17 @@ impl PixelRect {
     }
 }
 
+// Which picture is asked for.
+pub struct Coordinate {
+    pub scene: usize,
+    pub t: usize,
+    pub c: usize,
+    pub z: usize,
+}
+
 // Whether a coordinate lies within its scene.
 pub fn checked_coordinates(dims: Dims5, scene: usize, t: usize, c: usize, z: usize) -> Check
-    ensures { λ r. ⌜ checkOf r ≡ coordinates (dimsOf dims) scene t c z ⌝ }
+    ensures { λ r. ⌜ checkOf r ≡ coordinates (dimsOf dims) (coordinate scene t c z) ⌝ }
 {
     if dims.t <= t {
         return Check::Refused(Refusal::OutOfRange { scene, t, c, z });
@@ -173,7 +181,7 @@ pub fn checked_region(
     z: usize,
     rect: PixelRect,
 ) -> Check
-    ensures { λ r. ⌜ checkOf r ≡ region (dimsOf dims) scene t c z (rectOf rect) ⌝ }
+    ensures { λ r. ⌜ checkOf r ≡ inPicture (dimsOf dims) (coordinate scene t c z) (rectOf rect) ⌝ }
 {
     match checked_coordinates(dims, scene, t, c, z) {
         Check::Accepted => checked_rectangle(dims, rect),

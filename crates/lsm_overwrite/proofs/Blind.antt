@@ -6,7 +6,7 @@ use lib.ListN.{length, set, drop, length-set}
 use lib.Seq.{getD-set-other}
 use Rattle.lsm_format.specs.Answer.{Result, accepted}
 use Rattle.lsm_format.specs.Ranges.{Ranges, flat, Inside, Agree}
-use Rattle.lsm_format.specs.Rectangle.{Rect}
+use Rattle.lsm_format.specs.Rectangle.{Rect, Coordinate}
 use Rattle.lsm_format.specs.Open.{Opened, read, openFile, openMemory, tableBy, openRanges}
 use Rattle.lsm_format.specs.Picture.{Samples, plane, region, into, bufferBy}
 use Rattle.lsm_format.specs.Listed.{stripsRanges, channelBlockRanges, regionRanges, listed, listedFor}
@@ -39,9 +39,9 @@ module _ (f g : List ℕ) (len : length g ≡ length f) (opens : Agree f g (open
   there = accepting-told _ _ _ (read-fits f) is
 
   -- a rectangle's list is part of the whole one
-  region-listed : Agree f g (stripsRanges f (x .table)) → (scene t c z : ℕ) (r : Rect) →
-      Agree f g (regionRanges (x .description) (x .table) f scene t c z r)
-  region-listed strips scene t c z r = region-all f g len (x .description) (x .table) [] there scene t c z strips r
+  region-listed : Agree f g (stripsRanges f (x .table)) → (co : Coordinate) (r : Rect) →
+      Agree f g (regionRanges (x .description) (x .table) f co r)
+  region-listed strips co r = region-all f g len (x .description) (x .table) [] there co strips r
 
   module _ (h : Held g) where
     -- the files open alike, so the description is the same, and the table with some rest after it
@@ -57,14 +57,14 @@ module _ (f g : List ℕ) (len : length g ≡ length f) (opens : Agree f g (open
         ap (λ (r : Result Opened). tableBy r (h .lent)) (read-law f g len opens ∙ is)
         ∙ filled-room (x .table) (h .lent) (rw same at (held-room g h))
 
-    plane-held : Agree f g (stripsRanges f (x .table)) → (scene t c z : ℕ) →
-        planeOf g h scene t c z ≡ plane (x .description) (x .table) f scene t c z
-    plane-held strips scene t c z =
-        rw (same-table, same) (plane-law f g len (x .description) (x .table) _ there scene t c z strips)
+    plane-held : Agree f g (stripsRanges f (x .table)) → (co : Coordinate) →
+        planeOf g h co ≡ plane (x .description) (x .table) f co
+    plane-held strips co =
+        rw (same-table, same) (plane-law f g len (x .description) (x .table) _ there co strips)
 
-    region-held : (scene t c z : ℕ) (r : Rect) → Agree f g (regionRanges (x .description) (x .table) f scene t c z r) →
-        regionOf g h scene t c z r ≡ region (x .description) (x .table) f scene t c z r
-    region-held scene t c z r w = rw (same-table, same) (region-law f g len (x .description) (x .table) _ there scene t c z r w)
+    region-held : (co : Coordinate) (r : Rect) → Agree f g (regionRanges (x .description) (x .table) f co r) →
+        regionOf g h co r ≡ region (x .description) (x .table) f co r
+    region-held co r w = rw (same-table, same) (region-law f g len (x .description) (x .table) _ there co r w)
 
 -- ---- the two forms
 
@@ -73,27 +73,27 @@ module _ (f g : List ℕ) (len : length g ≡ length f) (opens : Agree f g (open
   opening-alike : OpensAlike f g
   opening-alike = record { openAnswer = open-law f g len opens; openLeaves = open-memory-law f g len opens }
 
-  region-same : (scene t c z : ℕ) (r : Rect) (a : Held f) (b : Held g) →
-      Agree f g (regionRanges (a .opened .description) (a .opened .table) f scene t c z r) → regionOf g b scene t c z r ≡ regionOf f a scene t c z r
-  region-same scene t c z r a b w =
-      let own = agree-self f (regionRanges (a .opened .description) (a .opened .table) f scene t c z r) in
-      region-held f g len opens (a .opened) (held-read f a) b scene t c z r w
-      ∙ sym (region-held f f refl (agree-self f (openRanges f)) (a .opened) (held-read f a) a scene t c z r own)
+  region-same : (co : Coordinate) (r : Rect) (a : Held f) (b : Held g) →
+      Agree f g (regionRanges (a .opened .description) (a .opened .table) f co r) → regionOf g b co r ≡ regionOf f a co r
+  region-same co r a b w =
+      let own = agree-self f (regionRanges (a .opened .description) (a .opened .table) f co r) in
+      region-held f g len opens (a .opened) (held-read f a) b co r w
+      ∙ sym (region-held f f refl (agree-self f (openRanges f)) (a .opened) (held-read f a) a co r own)
 
-  region-alike : (scene t c z : ℕ) (r : Rect) →
-      ((a : Held f) → Agree f g (regionRanges (a .opened .description) (a .opened .table) f scene t c z r)) → RegionAlike f g scene t c z r
-  region-alike scene t c z r w =
+  region-alike : (co : Coordinate) (r : Rect) →
+      ((a : Held f) → Agree f g (regionRanges (a .opened .description) (a .opened .table) f co r)) → RegionAlike f g co r
+  region-alike co r w =
       record {
-        regionAnswer = λ a b room. ap (λ (s : Result Samples). into s room) (region-same scene t c z r a b (w a));
-        regionLeaves = λ a b buffer. ap (λ (s : Result Samples). bufferBy s buffer) (region-same scene t c z r a b (w a));
+        regionAnswer = λ a b room. ap (λ (s : Result Samples). into s room) (region-same co r a b (w a));
+        regionLeaves = λ a b buffer. ap (λ (s : Result Samples). bufferBy s buffer) (region-same co r a b (w a));
       }
 
-  plane-same : (a : Held f) (b : Held g) → Agree f g (stripsRanges f (a .opened .table)) → (scene t c z : ℕ) →
-      planeOf g b scene t c z ≡ planeOf f a scene t c z
-  plane-same a b strips scene t c z =
+  plane-same : (a : Held f) (b : Held g) → Agree f g (stripsRanges f (a .opened .table)) → (co : Coordinate) →
+      planeOf g b co ≡ planeOf f a co
+  plane-same a b strips co =
       let own = agree-self f (stripsRanges f (a .opened .table)) in
-      plane-held f g len opens (a .opened) (held-read f a) b strips scene t c z
-      ∙ sym (plane-held f f refl (agree-self f (openRanges f)) (a .opened) (held-read f a) a own scene t c z)
+      plane-held f g len opens (a .opened) (held-read f a) b strips co
+      ∙ sym (plane-held f f refl (agree-self f (openRanges f)) (a .opened) (held-read f a) a own co)
 
   module _ (a : Held f) (b : Held g) (w : Agree f g (channelBlockRanges f (a .opened .description))) (channel : ℕ) where
     lookup-same : (room : ℕ) → lookupOf g b channel room ≡ lookupOf f a channel room
@@ -116,10 +116,10 @@ blind f g o =
     let len = o .sameLength in
     record {
       opening = opening-alike f g len (w .0);
-      planeAnswer = λ a b scene t c z room. ap (λ (s : Result Samples). into s room) (plane-same f g len (w .0) a b (rest a .1) scene t c z);
-      planeLeaves = λ a b scene t c z buffer. ap (λ (s : Result Samples). bufferBy s buffer) (plane-same f g len (w .0) a b (rest a .1) scene t c z);
-      regions = λ scene t c z r.
-          region-alike f g len (w .0) scene t c z r (λ a. region-listed f g len (w .0) (a .opened) (held-read f a) (rest a .1) scene t c z r);
+      planeAnswer = λ a b co room. ap (λ (s : Result Samples). into s room) (plane-same f g len (w .0) a b (rest a .1) co);
+      planeLeaves = λ a b co buffer. ap (λ (s : Result Samples). bufferBy s buffer) (plane-same f g len (w .0) a b (rest a .1) co);
+      regions = λ co r.
+          region-alike f g len (w .0) co r (λ a. region-listed f g len (w .0) (a .opened) (held-read f a) (rest a .1) co r);
       lookupAnswer = λ a b channel room. lookup-same f g len (w .0) a b (rest a .0) channel room;
       lookupLeaves = λ a b channel buffer. lookup-left-same f g len (w .0) a b (rest a .0) channel buffer;
     }
@@ -127,11 +127,11 @@ blind f g o =
 -- "opening and that rectangle's call then answer alike"
 pub blind-rectangle : SpareSamples
 unfolding listedFor
-blind-rectangle f g scene t c z r o =
-    let w : Agree f g (listedFor f scene t c z r) = agree f g (listedFor f scene t c z r) (o .sameListed) in
+blind-rectangle f g co r o =
+    let w : Agree f g (listedFor f co r) = agree f g (listedFor f co r) (o .sameListed) in
     record {
       opening = opening-alike f g (o .sameLength) (w .0);
-      rectangle = region-alike f g (o .sameLength) (w .0) scene t c z r (λ a. over-given f g (read f) _ (a .opened) (held-read f a) (w .1));
+      rectangle = region-alike f g (o .sameLength) (w .0) co r (λ a. over-given f g (read f) _ (a .opened) (held-read f a) (w .1));
     }
 
 -- a byte that is not on the list may be overwritten

@@ -1,10 +1,10 @@
 -- Demand 3, its second half: the three parts of the statement in specs/Exact.antt, proved for all descriptions, tables and files. The weight
--- lies in `exact-filled`: what region's checks tell of the strips (`RegionAccepted`) says that every sample of the rectangle is in them, and
+-- lies in `exact-samples`: what region's checks tell of the strips (`RegionAccepted`) says that every sample of the rectangle is in them, and
 -- there the bytes by their places are those of the joined strips. Assumes nothing.
 use Prim.Native.Nat.{ℕ, zero, suc, _+_, _-_, _*_, _^_, _≤_, _<_, min}
 use native.Mathlib.Nat.{zero-add, add-zero, add-mul, suc-mul, mul-assoc, mul-le-mul-right, not-suc-le-zero}
 use native.Mathlib.Omega.{arith}
-use mathlib.Core.Path.{_≡_, refl, sym, ap, ap₂, _∙_}
+use mathlib.Core.Path.{_≡_, refl, sym, ap, ap₂, subst, _∙_}
 use mathlib.Core.Bool.{Bool, true, false, _&&_}
 use mathlib.Core.Logic.{inl, inr}
 use mathlib.Core.Option.{Option, none, some}
@@ -12,19 +12,19 @@ use mathlib.Core.List.{List, [], _∷_, _++_}
 use lib.Dec.{leb, ltb, eqb}
 use lib.ListN.{length, getD, take, drop}
 use borrow.Author.Tests.{lt-ltb, le-leb, leb-true, leb-false}
-use Rattle.lsm_format.specs.Answer.{Result, accepted, refused, bind, need, given, decode, oversizedAllocation, sceneOutOfRange, outOfRange}
+use Rattle.lsm_format.specs.Answer.{Result, accepted, refused, bind, need, given, decode, oversizedAllocation, sceneOutOfRange}
 use Rattle.lsm_format.specs.Words.{word}
-use Rattle.lsm_format.specs.Scenes.{pageOf}
 use Rattle.lsm_format.specs.Sizes.{Kind, sampleSize, pictureLimit, pictureBytes, pictureSize, unlimitedSize}
-use Rattle.lsm_format.specs.Rectangle.{Dims, Rect, coordinates, within, rectangle, isEmpty}
+use Rattle.lsm_format.specs.Rectangle.{Dims, Rect, Coordinate, noPicture, coordinates, within, rectangle, isEmpty}
+use Rattle.lsm_format.specs.Scenes.{pageOf}
 use Rattle.lsm_format.specs.Lent.{lend}
 use Rattle.lsm_format.specs.Open.{Description}
-use Rattle.lsm_format.specs.Picture.{Samples, offsetOf, countOf, total, stored, inside, span, bytes, picture, each, toLittle, hasPage, firstStrip, channelStrips, coordinate, planeStrips, channelPicture, samplesIn, wholePicture, plane, rowBytes, wholeRows, windowEnd, windowStrips, regionBy, regionStrips, filledRegion, region, into}
+use Rattle.lsm_format.specs.Picture.{Strips, Samples, offsetOf, countOf, total, stored, lies, inside, inTurn, span, bytes, samplePlace, picture, each, toLittle, hasPage, stripsOn, channelStrips, sceneThere, coordinateThere, planeStrips, planeFrom, channelPicture, samplesIn, wholePicture, plane, rowBytes, wholeRows, windowEnd, rowStrips, windowStrips, regionBy, regionStrips, filledStrips, regionFrom, region, into}
 use Rattle.lsm_format.proofs.Lent.{lend-room, lend-short}
 use Rattle.lsm_format.proofs.Scenes.{page-some}
 use Rattle.lsm_format.proofs.Picture.{held, bytes-add, bytes-moved, bytes-length, bytes-at, bytes-run, place-in, place-past, inside-head, coordinate-channel, rectangle-within, channel-page, channel-room}
-use Rattle.lsm_format.proofs.Region.{RegionAccepted, accepted-by-plane, region-accepted, samples-at, samples-length, size-samples, empty-then, empty-size, plane-then, region-then, rectangle-accepted}
-use Rattle.lsm_overwrite.specs.Exact.{channelFirst, joined, joinedStrips, sampleOf, pictureSample, There, Exact, Accepted, Inside, EachRectangle, EachPlane, EveryInside}
+use Rattle.lsm_format.proofs.Region.{RegionAccepted, accepted-by-plane, region-accepted, samples-at, samples-length, size-samples, empty-then, plane-from-then, region-from-then, plane-then, region-then, rectangle-accepted}
+use Rattle.lsm_overwrite.specs.Exact.{namedStrips, joined, joinedStrips, sampleOf, pictureSample, There, Exact, Accepted, Inside, EachRectangle, EachPlane, EveryInside}
 
 -- ---- the joined strips
 
@@ -77,7 +77,7 @@ inside-each t len (suc n) i (suc k) w h =
 -- ---- samples
 
 -- sample i, j of an answer, by its bytes
-answer-sample : (l : List ℕ) (w h s i j : ℕ) → length l ≡ h * w * s → i < h → j < w → sampleOf l s (i * w + j) ≡ picture (held l) w s i j
+answer-sample : (l : List ℕ) (w h s i j : ℕ) → length l ≡ h * w * s → i < h → j < w → sampleOf l w s i j ≡ picture (held l) w s i j
 unfolding picture
 answer-sample l w h s i j e hi hj =
     let u : suc (i * w + j) ≤ h * w = omega (arith, suc-mul i w, mul-le-mul-right w hi) in
@@ -86,7 +86,7 @@ answer-sample l w h s i j e hi hj =
 
 -- a sample of the rectangle ends where the rectangle does, or before
 pub sample-end : (d : Description) (r : Rect) (row column : ℕ) → row < r .y + r .h → column < r .x + r .w
-    → (row * d .dims .x + column) * sampleSize (d .kind) + sampleSize (d .kind) ≤ windowEnd d r
+    → samplePlace (d .dims .x) (sampleSize (d .kind)) row column + sampleSize (d .kind) ≤ windowEnd d r
 sample-end d r row column u v =
     let s : ℕ = sampleSize (d .kind) in
     let rows : row ≤ r .y + r .h - 1 = omega arith in
@@ -94,95 +94,77 @@ sample-end d r row column u v =
     omega (arith, q, mul-le-mul-right (rowBytes d) rows, suc-mul column s, mul-le-mul-right s v)
 
 -- the strips that a check handed over are those that the caller named
-first-named : (d : Description) (words scene t c z first : ℕ) → channelStrips d words scene t c z ≡ accepted first → first ≡ channelFirst d scene t c z
-first-named d words scene t c z first e =
-    channel-page d words scene t c z first e
-    (λ page p q. sym q ∙ ap (λ (k : ℕ). firstStrip d k c) (page-some (d .layout) scene z page p .1))
+strips-named : (d : Description) (words : ℕ) (co : Coordinate) (s : Strips) → channelStrips d words co ≡ accepted s → s ≡ namedStrips d co
+strips-named d words co s e =
+    channel-page d words co s e
+    (λ page p there q. sym q ∙ ap (λ (k : ℕ). stripsOn d k (co .c)) (page-some (d .layout) co page p .1))
 
 -- A rectangle that has samples, of strips that are accepted for it.
-module _ (d : Description) (t f : List ℕ) (scene time c z first : ℕ) (r : Rect) (y : RegionAccepted d t (length f) scene time c z first r) (i j : ℕ) (hi : i < r .h)
+module _ (d : Description) (t f : List ℕ) (co : Coordinate) (s : Strips) (r : Rect) (y : RegionAccepted d t (length f) co s r) (i j : ℕ) (hi : i < r .h)
     (hj : j < r .w) where
-  named : joined f t first (d .stripsPerChannel) ≡ joinedStrips d t f scene time c z
+  named : joined f t (s .first) (s .count) ≡ joinedStrips d t f co
   unfolding joinedStrips
-  named = ap (λ (k : ℕ). joined f t k (d .stripsPerChannel)) (first-named d (length t) scene time c z first (y .channel))
+  named = ap (λ (k : Strips). joined f t (k .first) (k .count)) (strips-named d (length t) co s (y .channel))
 
-  sample-there : c < d .dims .c → There d t f scene time c z (r .y + i) (r .x + j)
+  sample-there : co .c < d .dims .c → There d t f co (r .y + i) (r .x + j)
   sample-there h =
-      let q = first-named d (length t) scene time c z first (y .channel) in
+      let q = strips-named d (length t) co s (y .channel) in
       record {
-        inTable = rw (sym q) (channel-room d (length t) scene time c z first (y .channel) h);
-        inFile = rw (sym q) (λ k l. inside-each t (length f) (d .stripsPerChannel) first k (y .within) l);
-        inStrips = rw (sym named, joined-length f t first (d .stripsPerChannel) (y .within)) (omega (arith, sample-end d r (r .y + i) (r .x + j) (omega arith) (omega arith), y .reach));
+        inTable = subst (λ (k : Strips). 2 * (k .first + k .count) ≤ length t) q (channel-room d (length t) co s (y .channel) h);
+        inFile = subst (λ (k : Strips). (m : ℕ) → m < k .count → offsetOf t (k .first + m) + countOf t (k .first + m) ≤ length f) q
+            (λ m l. inside-each t (length f) (s .count) (s .first) m (y .within) l);
+        inStrips = rw (sym named, joined-length f t (s .first) (s .count) (y .within)) (omega (arith, sample-end d r (r .y + i) (r .x + j) (omega arith) (omega arith), y .reach));
       }
 
-  sample-same : channelPicture d t f first (r .y + i) (r .x + j) ≡ pictureSample d t f scene time c z (r .y + i) (r .x + j)
+  sample-same : channelPicture d t f s (r .y + i) (r .x + j) ≡ pictureSample d t f co (r .y + i) (r .x + j)
   unfolding channelPicture each picture pictureSample
   sample-same =
+      let at : ℕ = samplePlace (d .dims .x) (sampleSize (d .kind)) (r .y + i) (r .x + j) in
       ap (toLittle (d .order))
-      (joined-part f t first (d .stripsPerChannel) (((r .y + i) * d .dims .x + (r .x + j)) * sampleSize (d .kind)) (sampleSize (d .kind)) (y .within) (omega (arith, sample-end d r (r .y + i) (r .x + j) (omega arith) (omega arith), y .reach))
-      ∙ ap (sampled (((r .y + i) * d .dims .x + (r .x + j)) * sampleSize (d .kind))) named)
-    where
-      sampled : ℕ → List ℕ → List ℕ
-      sampled at l = take (sampleSize (d .kind)) (drop at l)
+      (joined-part f t (s .first) (s .count) at (sampleSize (d .kind)) (y .within) (omega (arith, sample-end d r (r .y + i) (r .x + j) (omega arith) (omega arith), y .reach))
+      ∙ ap (λ (l : List ℕ). take (sampleSize (d .kind)) (drop at l)) named)
 
 -- the samples of accepted strips; an empty rectangle asks nothing of them
-exact-filled : (d : Description) (t f : List ℕ) (scene time c z first : ℕ) (r : Rect) → c < d .dims .c
-    → (0 < r .h → 0 < r .w → RegionAccepted d t (length f) scene time c z first r)
-    → Exact d t f scene time c z r (r .h) (r .w) (samplesIn d t f r first .bytes)
-exact-filled d t f scene time c z first r h y =
-    let size : length (samplesIn d t f r first .bytes) ≡ r .h * r .w * sampleSize (d .kind) =
-    samples-length d t f first r ∙ size-samples (r .w) (r .h) (sampleSize (d .kind)) in
-    record {
+exact-samples : (d : Description) (t f : List ℕ) (co : Coordinate) (s : Strips) (r : Rect) → co .c < d .dims .c
+    → (0 < r .h → 0 < r .w → RegionAccepted d t (length f) co s r) → (a : Samples) → samplesIn d t f r s ≡ a
+    → Exact d t f co r (a .rows) (a .columns) (a .bytes)
+unfolding samplesIn
+exact-samples d t f co s r h y a e =
+    let size : length (samplesIn d t f r s .bytes) ≡ r .h * r .w * sampleSize (d .kind) =
+    samples-length d t f s r ∙ size-samples (r .w) (r .h) (sampleSize (d .kind)) in
+    subst (λ (b : Samples). Exact d t f co r (b .rows) (b .columns) (b .bytes)) e
+    (record {
       high = refl;
       wide = refl;
       sample = λ i j hi hj.
-          answer-sample (samplesIn d t f r first .bytes) (r .w) (r .h) (sampleSize (d .kind)) i j size hi hj
-          ∙ samples-at d t f first r i j hi hj
-          ∙ sample-same d t f scene time c z first r (y (omega arith) (omega arith)) i j hi hj;
-      there = λ i j hi hj. sample-there d t f scene time c z first r (y (omega arith) (omega arith)) i j hi hj h;
+          answer-sample (samplesIn d t f r s .bytes) (r .w) (r .h) (sampleSize (d .kind)) i j size hi hj
+          ∙ samples-at d t f s r i j hi hj
+          ∙ sample-same d t f co s r (y (omega arith) (omega arith)) i j hi hj;
+      there = λ i j hi hj. sample-there d t f co s r (y (omega arith) (omega arith)) i j hi hj h;
       size = size;
-    }
-
--- an empty rectangle has no sample
-none-there : {C : Type 0} (r : Rect) (i j : ℕ) → isEmpty r ≡ true → i < r .h → j < r .w → C
-none-there r i j e hi hj = empty-then r e (λ z. absurd (omega arith)) (λ z. absurd (omega arith))
-
-exact-none : (d : Description) (t f : List ℕ) (scene time c z : ℕ) (r : Rect) → isEmpty r ≡ true → Exact d t f scene time c z r (r .h) (r .w) []
-exact-none d t f scene time c z r e =
-    record {
-      high = refl;
-      wide = refl;
-      sample = λ i j hi hj. none-there r i j e hi hj;
-      there = λ i j hi hj. none-there r i j e hi hj;
-      size = sym (mul-assoc (r .h) (r .w) (sampleSize (d .kind)) ∙ empty-size r (sampleSize (d .kind)) e);
-    }
-
--- an answer is one by its three parts
-exact-as : (d : Description) (t f : List ℕ) (scene time c z : ℕ) (r : Rect) (a b : Samples) → a ≡ b
-    → Exact d t f scene time c z r (a .rows) (a .columns) (a .bytes) → Exact d t f scene time c z r (b .rows) (b .columns) (b .bytes)
-exact-as d t f scene time c z r a b e x = rw e at x
+    })
 
 -- ---- the statement
 
 pub each-rectangle : EachRectangle
-unfolding samplesIn
-each-rectangle d t f scene time c z r a e =
-    region-then d t f scene time c z r a e
-    (λ u v p q i w. exact-as d t f scene time c z r _ a w (exact-none d t f scene time c z r i))
-    (λ u v first p q i k w.
-    let l = rectangle-within (d .dims) r v q in
-    exact-as d t f scene time c z r _ a w
-    (exact-filled d t f scene time c z first r (coordinate-channel d scene time c z u p)
-    (λ h _. region-accepted d t (length f) scene time c z r (l .0) (l .1) h first k)))
+each-rectangle d t f co r a e =
+    region-then d t f co r a e
+    (λ s p w.
+    region-from-then d t (length f) co r s p
+    (λ u v e₁ e₂ i q.
+    exact-samples d t f co s r (coordinate-channel d co u e₁) (λ h k. empty-then r i (λ z. absurd (omega arith)) (λ z. absurd (omega arith))) a w)
+    (λ u v e₁ e₂ i k.
+    let l = rectangle-within (d .dims) r v e₂ in
+    exact-samples d t f co s r (coordinate-channel d co u e₁) (λ h _. region-accepted d t (length f) co r (l .0) (l .1) h s k) a w))
 
 pub each-plane : EachPlane
-unfolding samplesIn
-each-plane d t f scene time c z a e =
-    plane-then d t f scene time c z a e
-    (λ u first p q w.
-    exact-as d t f scene time c z (wholePicture d) _ a w
-    (exact-filled d t f scene time c z first (wholePicture d) (coordinate-channel d scene time c z u p)
-    (λ h _. accepted-by-plane d t (length f) scene time c z (wholePicture d) (omega arith) (omega arith) h first q)))
+each-plane d t f co a e =
+    plane-then d t f co a e
+    (λ s p w.
+    plane-from-then d t (length f) co s p
+    (λ u e₁ k.
+    exact-samples d t f co s (wholePicture d) (coordinate-channel d co u e₁)
+    (λ h _. accepted-by-plane d t (length f) co (wholePicture d) (omega arith) (omega arith) h s k) a w))
 
 -- ---- accepted, or refused with 7 only
 
@@ -209,11 +191,11 @@ unfolding Lower
 lower-given row (some a) h = tt
 lower-given row none h = h
 
-coordinate-lower : (d : Description) (scene time c z : ℕ) → Lower (coordinate d scene time c z)
-unfolding coordinate coordinates
-coordinate-lower d scene time c z =
-    lower-bind _ _ (lower-need (sceneOutOfRange scene (d .layout .scenes)) (ltb scene (d .layout .scenes)) (omega arith))
-    (λ _. lower-need (outOfRange scene time c z) (ltb time (d .dims .t) && ltb c (d .dims .c) && ltb z (d .dims .z)) (omega arith))
+coordinate-lower : (d : Description) (co : Coordinate) → Lower (coordinateThere d co)
+unfolding coordinateThere sceneThere coordinates
+coordinate-lower d co =
+    lower-bind _ _ (lower-need (sceneOutOfRange (co .scene) (d .layout .scenes)) (ltb (co .scene) (d .layout .scenes)) (omega arith))
+    (λ _. lower-need (noPicture co) (ltb (co .t) (d .dims .t) && ltb (co .c) (d .dims .c) && ltb (co .z) (d .dims .z)) (omega arith))
 
 size-lower : (w h : ℕ) (k : Kind) → Lower (pictureSize w h k)
 unfolding pictureSize unlimitedSize Lower
@@ -221,53 +203,58 @@ size-lower w h k =
     lower-bind _ _ (lower-given (oversizedAllocation (2 ^ 64 - 1) pictureLimit) (word (pictureBytes w h k)) (omega arith))
     (λ n. lower-bind _ _ (lower-need (oversizedAllocation n pictureLimit) (leb n pictureLimit) (omega arith)) (λ _. tt))
 
-channel-lower : (d : Description) (words scene time c z : ℕ) → Lower (channelStrips d words scene time c z)
+channel-lower : (d : Description) (words : ℕ) (co : Coordinate) → Lower (channelStrips d words co)
 unfolding channelStrips Lower
-channel-lower d words scene time c z =
-    lower-bind _ _ (lower-given (outOfRange scene time c z) (pageOf (d .layout) scene z) (omega arith))
-    (λ page. lower-bind _ _ (lower-need (outOfRange scene time c z) (hasPage d words page) (omega arith)) (λ _. tt))
+channel-lower d words co =
+    lower-bind _ _ (lower-given (noPicture co) (pageOf (d .layout) co) (omega arith))
+    (λ page. lower-bind _ _ (lower-need (noPicture co) (hasPage d words page) (omega arith)) (λ _. tt))
 
-module _ (d : Description) (t : List ℕ) (len scene time c z : ℕ) where
-  -- the strips within the file, then one more test of them
-  judged-lower : (first : ℕ) (b : Bool)
-      → Lower (bind (need decode (inside t len first (d .stripsPerChannel))) (λ _. bind (need decode b) (λ _. accepted first)))
-  unfolding Lower
-  judged-lower first b =
-      lower-bind _ _ (lower-need decode (inside t len first (d .stripsPerChannel)) (omega arith))
-      (λ _. lower-bind _ _ (lower-need decode b (omega arith)) (λ _. tt))
+turn-lower : (t : List ℕ) (len i n left : ℕ) → Lower (inTurn decode decode t len i n left)
+unfolding inTurn
+turn-lower t len i zero left = lower-need decode (eqb left 0) (omega arith)
+turn-lower t len i (suc n) left =
+    lower-bind _ _ (lower-need decode (lies t len i) (omega arith))
+    (λ _. lower-bind _ _ (lower-need decode (leb (countOf t i) left) (omega arith)) (λ _. turn-lower t len (i + 1) n (left - countOf t i)))
 
-  strips-lower : Lower (planeStrips d t len scene time c z)
-  unfolding planeStrips
+module _ (d : Description) (t : List ℕ) (len : ℕ) (co : Coordinate) where
+  strips-lower : Lower (planeStrips d t len co)
+  unfolding planeStrips Lower
   strips-lower =
       lower-bind _ _ (size-lower (d .dims .x) (d .dims .y) (d .kind))
       (λ size.
-      lower-bind _ _ (channel-lower d (length t) scene time c z)
-      (λ first. judged-lower first (eqb (total t first (d .stripsPerChannel)) size)))
+      lower-bind _ _ (channel-lower d (length t) co)
+      (λ s. lower-bind _ _ (turn-lower t len (s .first) (s .count) size) (λ _. tt)))
 
-  region-strips-lower : (r : Rect) (b : Bool) → Lower (regionBy b d t len scene time c z r)
-  unfolding windowStrips
+  region-strips-lower : (r : Rect) (b : Bool) → Lower (regionBy b d t len co r)
+  unfolding windowStrips rowStrips Lower
   region-strips-lower r true =
       lower-bind _ _ (size-lower (r .w) (r .h) (d .kind))
       (λ _.
-      lower-bind _ _ (channel-lower d (length t) scene time c z)
-      (λ first. judged-lower first (leb (windowEnd d r) (total t first (d .stripsPerChannel)))))
+      lower-bind _ _ (channel-lower d (length t) co)
+      (λ s.
+      lower-bind _ _ (lower-need decode (inside t len (s .first) (s .count)) (omega arith))
+      (λ _. lower-bind _ _ (lower-need decode (leb (windowEnd d r) (total t (s .first) (s .count))) (omega arith)) (λ _. tt))))
   region-strips-lower r false = strips-lower
 
-module _ (d : Description) (t f : List ℕ) (scene time c z : ℕ) where
-  pub plane-lower : Lower (plane d t f scene time c z)
-  unfolding plane Lower
-  plane-lower = lower-bind _ _ (coordinate-lower d scene time c z) (λ _. lower-bind _ _ (strips-lower d t (length f) scene time c z) (λ first. tt))
-
-  filled-lower : (r : Rect) (b : Bool) → Lower (filledRegion b d t f scene time c z r)
+  filled-lower : (r : Rect) (b : Bool) → Lower (filledStrips b d t len co r)
   unfolding regionStrips Lower
   filled-lower r true = tt
-  filled-lower r false = lower-bind _ _ (region-strips-lower d t (length f) scene time c z r (wholeRows d t)) (λ first. tt)
+  filled-lower r false = region-strips-lower r (wholeRows d t)
 
-  pub region-lower : (r : Rect) → Lower (region d t f scene time c z r)
-  unfolding region rectangle
+module _ (d : Description) (t f : List ℕ) (co : Coordinate) where
+  pub plane-lower : Lower (plane d t f co)
+  unfolding plane planeFrom Lower
+  plane-lower = lower-bind _ _ (lower-bind _ _ (coordinate-lower d co) (λ _. strips-lower d t (length f) co)) (λ s. tt)
+
+  pub region-lower : (r : Rect) → Lower (region d t f co r)
+  unfolding region regionFrom rectangle Lower
   region-lower r =
-      lower-bind _ _ (coordinate-lower d scene time c z)
-      (λ _. lower-bind _ _ (lower-need decode (within (r .x) (r .w) (d .dims .x) && within (r .y) (r .h) (d .dims .y)) (omega arith)) (λ _. filled-lower r (isEmpty r)))
+      lower-bind _ _
+      (lower-bind _ _ (coordinate-lower d co)
+      (λ _.
+      lower-bind _ _ (lower-need decode (within (r .x) (r .w) (d .dims .x) && within (r .y) (r .h) (d .dims .y)) (omega arith))
+      (λ _. filled-lower d t (length f) co r (isEmpty r))))
+      (λ s. tt)
 
 -- so 7 is the buffer's
 accepted-then : {C : Type 0} (m : Result Samples) (room : ℕ) → Lower m → Accepted (into m room) → ((a : Samples) → m ≡ accepted a → C) → C
@@ -293,6 +280,6 @@ inside-accepted d r i =
     rw (lt-ltb (r .x + r .w) (2 ^ 64) (i .right .0), le-leb (r .x + r .w) (d .x) (i .right .1), lt-ltb (r .y + r .h) (2 ^ 64) (i .bottom .0), le-leb (r .y + r .h) (d .y) (i .bottom .1))
 
 pub every-inside : EveryInside
-every-inside d t f scene time c z r room room′ p i =
-    accepted-then (plane d t f scene time c z) room (plane-lower d t f scene time c z) p
-    (λ s e. rectangle-accepted d t f scene time c z r s tt e (inside-accepted (d .dims) r i) (λ a k. accepted-into _ room′ a k))
+every-inside d t f co r room room′ p i =
+    accepted-then (plane d t f co) room (plane-lower d t f co) p
+    (λ s e. rectangle-accepted d t f co r s tt e (inside-accepted (d .dims) r i) (λ a k. accepted-into _ room′ a k))

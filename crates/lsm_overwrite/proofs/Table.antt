@@ -5,32 +5,29 @@ use native.Mathlib.Nat.{add-mul, one-mul, suc-mul, mul-le-mul-right}
 use native.Mathlib.Omega.{arith}
 use mathlib.Core.Bool.{Bool, true, false, not, _&&_}
 use mathlib.Core.Option.{some}
-use mathlib.Core.Path.{_≡_, refl, sym, ap, ap₂, _∙_}
+use mathlib.Core.Path.{_≡_, refl, sym, ap, ap₂, subst, _∙_}
 use mathlib.Core.List.{List, _++_}
 use lib.Dec.{leb, ltb, eqb}
 use lib.ListN.{length, length-append, List·getD-append}
-use borrow.Author.Tests.{le-leb, ltb-true}
-use Rattle.lsm_format.specs.Answer.{accepted, need, decode, outOfRange}
-use Rattle.lsm_format.specs.Rectangle.{Rect, coordinates}
-use Rattle.lsm_format.specs.Scenes.{pageOf}
+use borrow.Author.Tests.{le-leb, ltb-true, ltb-false}
+use Rattle.lsm_format.specs.Answer.{accepted, need, decode}
+use Rattle.lsm_format.specs.Rectangle.{Rect, Coordinate, noPicture, coordinates, isEmpty}
+use Rattle.lsm_format.specs.Scenes.{pages, pageOf}
 use Rattle.lsm_format.specs.Open.{Description}
-use Rattle.lsm_format.specs.Picture.{offsetOf, countOf, total, place, inside, stripsPerPage, hasPage, firstStrip, channelStrips, coordinate, planeStrips, wholePicture, rowBytes, wholeStrips, rowsIn, wholeChannel, wholeChannels, wholePages, wholeRows, windowEnd, windowStrips, regionBy, regionStrips}
+use Rattle.lsm_format.specs.Picture.{Strips, offsetOf, countOf, total, place, inside, inTurn, stripsPerPage, hasPage, stripsOn, channelStrips, coordinateThere, planeStrips, planeFrom, wholePicture, rowBytes, wholeStrips, rowsIn, wholeChannel, wholeChannels, wholePages, wholeRows, windowEnd, rowStrips, windowStrips, regionBy, regionStrips, filledStrips, regionFrom}
 use Rattle.lsm_format.proofs.Scenes.{page-some}
 use Rattle.lsm_format.proofs.Accepting.{Accepting, accepting-bind, accepting-then, accepting-need, accepting-given, accepting-map, accepting-told, both-hold}
 use Rattle.lsm_format.proofs.Opened.{Fits}
-use Rattle.lsm_format.proofs.Region.{accepted-by-plane, region-accepted}
+use Rattle.lsm_format.proofs.Picture.{place-in, place-past, plane-accepted, rectangle-within}
+use Rattle.lsm_format.proofs.Region.{accepted-by-plane, region-accepted, empty-then, not-empty, plane-from-then, region-from-then}
 use Rattle.lsm_overwrite.proofs.TwoFiles.{bind-law, bind-accepting}
 
--- ---- a byte in the first of some strips, and one in those after it
-
-pub place-in : (table : List ℕ) (i n k : ℕ) → ltb k (countOf table i) ≡ true → place table i (suc n) k ≡ offsetOf table i + k
-unfolding place
-place-in table i n k t = rw (t, place)
-
-pub place-past : (table : List ℕ) (i n k : ℕ) → ltb k (countOf table i) ≡ false →
-    place table i (suc n) k ≡ place table (i + 1) n (k - countOf table i)
-unfolding place
-place-past table i n k t = rw (t, place)
+-- a byte past the first of some strips
+pub place-later : (t : List ℕ) (i n k : ℕ) → countOf t i ≤ k → place t i (suc n) k ≡ place t (i + 1) n (k - countOf t i)
+place-later t i n k h =
+    let q : countOf t i + (k - countOf t i) ≡ k = omega arith in
+    let z : suc n - 1 ≡ n = omega arith in
+    rw (q, z) at (place-past t i (suc n) (k - countOf t i) (omega arith))
 
 -- ---- the strips of one channel
 
@@ -55,6 +52,13 @@ module _ (table rest : List ℕ) where
   inside-own len zero i h = refl
   inside-own len (suc n) i h = rw (offset-own i n h, count-own i n h, inside-own len n (i + 1) (omega arith))
 
+  turn-own : (outside miscounted : List ℕ) (len n i left : ℕ) → Has i n →
+      inTurn outside miscounted (table ++ rest) len i n left ≡ inTurn outside miscounted table len i n left
+  unfolding inTurn
+  turn-own outside miscounted len zero i left h = refl
+  turn-own outside miscounted len (suc n) i left h =
+      rw (offset-own i n h, count-own i n h, turn-own outside miscounted len n (i + 1) (left - countOf table i) (omega arith))
+
   strips-own : (row n i : ℕ) → Has i n → wholeStrips row (table ++ rest) i n ≡ wholeStrips row table i n
   unfolding wholeStrips
   strips-own row zero i h = refl
@@ -69,9 +73,11 @@ module _ (table rest : List ℕ) where
       place (table ++ rest) (i + 1) n (k - countOf table i) ≡ place table (i + 1) n (k - countOf table i) →
       place (table ++ rest) i (suc n) k ≡ place table i (suc n) k
   place-by true n i k t h e =
-      place-in (table ++ rest) i n k (rw (count-own i n h) t) ∙ rw (offset-own i n h) (sym (place-in table i n k t))
+      let l : k < countOf table i = ltb-true _ _ t in
+      place-in (table ++ rest) i (suc n) k (omega arith) (rw (count-own i n h) l) ∙ rw (offset-own i n h) (sym (place-in table i (suc n) k (omega arith) l))
   place-by false n i k t h e =
-      place-past (table ++ rest) i n k (rw (count-own i n h) t) ∙ rw (count-own i n h) (e ∙ sym (place-past table i n k t))
+      let l : countOf table i ≤ k = ltb-false _ _ t in
+      place-later (table ++ rest) i n k (rw (count-own i n h) l) ∙ rw (count-own i n h) (e ∙ sym (place-later table i n k l))
 
   pub place-own : (n i k : ℕ) → Has i n → place (table ++ rest) i n k ≡ place table i n k
   unfolding place
@@ -83,25 +89,25 @@ module _ (table rest : List ℕ) where
 
 module _ (d : Description) (table rest : List ℕ) (fits : Fits d table) where
   -- a page of a scene, and a channel's strips of a page
-  page-less : (scene z page : ℕ) → z < d .dims .z → pageOf (d .layout) scene z ≡ some page → page < d .layout .scenes * d .layout .depth
-  page-less scene z page h e =
-      let p = page-some (d .layout) scene z page e in
-      let below : suc scene * d .layout .depth ≤ d .layout .scenes * d .layout .depth = mul-le-mul-right (d .layout .depth) (p .0) in
-      omega (arith, suc-mul scene (d .layout .depth), fits .deep, p .1)
+  page-less : (co : Coordinate) (page : ℕ) → co .z < d .dims .z → pageOf (d .layout) co ≡ some page → page < pages (d .layout)
+  page-less co page h e =
+      let p = page-some (d .layout) co page e in
+      let below : suc (co .scene) * d .layout .depth ≤ pages (d .layout) = mul-le-mul-right (d .layout .depth) (p .0) in
+      omega (arith, suc-mul (co .scene) (d .layout .depth), fits .deep, p .1)
 
-  page-has : (page : ℕ) → page < d .layout .scenes * d .layout .depth → (page + 1) * stripsPerPage d * 2 ≤ length table
+  page-has : (page : ℕ) → page < pages (d .layout) → (page + 1) * stripsPerPage d * 2 ≤ length table
   page-has page h =
-      let below : (page + 1) * stripsPerPage d ≤ d .layout .scenes * d .layout .depth * stripsPerPage d =
+      let below : (page + 1) * stripsPerPage d ≤ pages (d .layout) * stripsPerPage d =
       mul-le-mul-right (stripsPerPage d) (omega arith) in
       omega (arith, fits .words)
 
-  strips-has : (page c : ℕ) → page < d .layout .scenes * d .layout .depth → c < d .dims .c →
-      Has table rest (firstStrip d page c) (d .stripsPerChannel)
+  strips-has : (page c : ℕ) → page < pages (d .layout) → c < d .dims .c →
+      Has table rest (stripsOn d page c .first) (stripsOn d page c .count)
   strips-has page c h k =
       let below : suc c * d .stripsPerChannel ≤ stripsPerPage d = mul-le-mul-right (d .stripsPerChannel) k in
       omega (arith, page-has page h, suc-mul c (d .stripsPerChannel), add-mul page 1 (stripsPerPage d), one-mul (stripsPerPage d))
 
-  has-page-own : (page : ℕ) → page < d .layout .scenes * d .layout .depth → hasPage d (length (table ++ rest)) page ≡ hasPage d (length table) page
+  has-page-own : (page : ℕ) → page < pages (d .layout) → hasPage d (length (table ++ rest)) page ≡ hasPage d (length table) page
   has-page-own page h =
       let there : 2 * ((page + 1) * stripsPerPage d) ≤ length table = omega (arith, page-has page h) in
       let more : 2 * ((page + 1) * stripsPerPage d) ≤ length (table ++ rest) = rw length-append (omega arith) in
@@ -109,18 +115,18 @@ module _ (d : Description) (table rest : List ℕ) (fits : Fits d table) where
 
   -- ---- whole rows
 
-  channel-own : (first : ℕ) → Has table rest first (d .stripsPerChannel) → wholeChannel d (table ++ rest) first ≡ wholeChannel d table first
+  channel-own : (s : Strips) → Has table rest (s .first) (s .count) → wholeChannel d (table ++ rest) s ≡ wholeChannel d table s
   unfolding wholeChannel
-  channel-own first h = rw (strips-own table rest (rowBytes d) (d .stripsPerChannel) first h, rows-own table rest (rowBytes d) (d .stripsPerChannel) first h)
+  channel-own s h = rw (strips-own table rest (rowBytes d) (s .count) (s .first) h, rows-own table rest (rowBytes d) (s .count) (s .first) h)
 
-  channels-own : (page n : ℕ) → page < d .layout .scenes * d .layout .depth → n ≤ d .dims .c →
+  channels-own : (page n : ℕ) → page < pages (d .layout) → n ≤ d .dims .c →
       wholeChannels d (table ++ rest) page n ≡ wholeChannels d table page n
   unfolding wholeChannels
   channels-own page zero h k = refl
   channels-own page (suc n) h k =
-      ap₂ {C = Bool} _&&_ (channels-own page n h (omega arith)) (channel-own (firstStrip d page n) (strips-has page n h k))
+      ap₂ {C = Bool} _&&_ (channels-own page n h (omega arith)) (channel-own (stripsOn d page n) (strips-has page n h k))
 
-  pages-own : (n : ℕ) → n ≤ d .layout .scenes * d .layout .depth → wholePages d (table ++ rest) n ≡ wholePages d table n
+  pages-own : (n : ℕ) → n ≤ pages (d .layout) → wholePages d (table ++ rest) n ≡ wholePages d table n
   unfolding wholePages
   pages-own zero h = refl
   pages-own (suc n) h =
@@ -129,71 +135,95 @@ module _ (d : Description) (table rest : List ℕ) (fits : Fits d table) where
   rows-alike : wholeRows d (table ++ rest) ≡ wholeRows d table
   unfolding wholeRows
   rows-alike =
-      ap (λ (b : Bool). not (eqb (rowBytes d) 0) && (ltb (rowBytes d) (2 ^ 64) && (ltb (d .layout .scenes * d .layout .depth) (2 ^ 64) && b)))
-      (pages-own (d .layout .scenes * d .layout .depth) (omega arith))
+      ap (λ (b : Bool). not (eqb (rowBytes d) 0) && (ltb (rowBytes d) (2 ^ 64) && (ltb (pages (d .layout)) (2 ^ 64) && b)))
+      (pages-own (pages (d .layout)) (omega arith))
 
   -- ---- the strips that plane and region go to, at a coordinate that there is
 
-  module _ (len scene t c z : ℕ) (channel : c < d .dims .c) (depth : z < d .dims .z) where
-    first-own : channelStrips d (length (table ++ rest)) scene t c z ≡ channelStrips d (length table) scene t c z
+  module _ (len : ℕ) (co : Coordinate) (channel : co .c < d .dims .c) (depth : co .z < d .dims .z) where
+    channel-strips-own : channelStrips d (length (table ++ rest)) co ≡ channelStrips d (length table) co
     unfolding channelStrips
-    first-own =
-        bind-accepting _ _ refl (accepting-given (outOfRange scene t c z) (pageOf (d .layout) scene z)) (λ page e.
-        bind-law _ (ap (need (outOfRange scene t c z)) (has-page-own page (page-less scene z page depth e))) (λ _. refl))
+    channel-strips-own =
+        bind-accepting _ _ refl (accepting-given (noPicture co) (pageOf (d .layout) co)) (λ page e.
+        bind-law _ (ap (need (noPicture co)) (has-page-own page (page-less co page depth e))) (λ _. refl))
 
-    first-has : Accepting (λ (first : ℕ). Has table rest first (d .stripsPerChannel)) (channelStrips d (length table) scene t c z)
+    channel-strips-has : Accepting (λ (s : Strips). Has table rest (s .first) (s .count)) (channelStrips d (length table) co)
     unfolding channelStrips Accepting
-    first-has =
-        accepting-bind _ _ _ _ (accepting-given (outOfRange scene t c z) (pageOf (d .layout) scene z)) (λ page e.
-        accepting-then _ _ _ (λ _. strips-has page c (page-less scene z page depth e) channel))
+    channel-strips-has =
+        accepting-bind _ _ _ _ (accepting-given (noPicture co) (pageOf (d .layout) co)) (λ page e.
+        accepting-then _ _ _ (λ _. strips-has page (co .c) (page-less co page depth e) channel))
 
-    pub plane-own : planeStrips d (table ++ rest) len scene t c z ≡ planeStrips d table len scene t c z
+    pub plane-own : planeStrips d (table ++ rest) len co ≡ planeStrips d table len co
     unfolding planeStrips
     plane-own =
         bind-law _ refl (λ size.
-        bind-accepting _ _ first-own first-has (λ first h.
-        bind-law _ (ap (need decode) (inside-own table rest len (d .stripsPerChannel) first h)) (λ _.
-        bind-law _ (ap (λ (n : ℕ). need decode (eqb n size)) (total-own table rest (d .stripsPerChannel) first h)) (λ _. refl))))
+        bind-accepting _ _ channel-strips-own channel-strips-has (λ s h.
+        bind-law _ (turn-own table rest decode decode len (s .count) (s .first) size h) (λ _. refl)))
 
-    region-by-own : (b : Bool) (r : Rect) → regionBy b d (table ++ rest) len scene t c z r ≡ regionBy b d table len scene t c z r
-    unfolding windowStrips
+    region-by-own : (b : Bool) (r : Rect) → regionBy b d (table ++ rest) len co r ≡ regionBy b d table len co r
+    unfolding windowStrips rowStrips
     region-by-own true r =
         bind-law _ refl (λ _.
-        bind-accepting _ _ first-own first-has (λ first h.
-        bind-law _ (ap (need decode) (inside-own table rest len (d .stripsPerChannel) first h)) (λ _.
-        bind-law _ (ap (λ (n : ℕ). need decode (leb (windowEnd d r) n)) (total-own table rest (d .stripsPerChannel) first h)) (λ _. refl))))
+        bind-accepting _ _ channel-strips-own channel-strips-has (λ s h.
+        bind-law _ (ap (need decode) (inside-own table rest len (s .count) (s .first) h)) (λ _.
+        bind-law _ (ap (λ (n : ℕ). need decode (leb (windowEnd d r) n)) (total-own table rest (s .count) (s .first) h)) (λ _. refl))))
     region-by-own false r = plane-own
 
-    pub region-own : (r : Rect) → regionStrips d (table ++ rest) len scene t c z r ≡ regionStrips d table len scene t c z r
+    filled-own : (b : Bool) (r : Rect) → filledStrips b d (table ++ rest) len co r ≡ filledStrips b d table len co r
     unfolding regionStrips
-    region-own r = rw rows-alike (region-by-own (wholeRows d table) r)
+    filled-own true r = refl
+    filled-own false r = rw rows-alike (region-by-own (wholeRows d table) r)
 
-    -- the strips that are accepted for a rectangle are in the table and in the file, and hold its samples
-    pub record Within (r : Rect) (first : ℕ) : Type 0 where
-      pub has : Has table rest first (d .stripsPerChannel)
-      pub inFile : inside table len first (d .stripsPerChannel) ≡ true
-      pub reach : windowEnd d r ≤ total table first (d .stripsPerChannel)
+    strips-told : (s : Strips) → channelStrips d (length table) co ≡ accepted s → Has table rest (s .first) (s .count)
+    strips-told s e = accepting-told _ _ s channel-strips-has e
 
-    pub first-told : (first : ℕ) → channelStrips d (length table) scene t c z ≡ accepted first → Has table rest first (d .stripsPerChannel)
-    first-told first e = accepting-told _ _ first first-has e
+  -- the strips that are accepted for a rectangle are in the table and in the file, and hold its samples
+  pub record Within (len : ℕ) (r : Rect) (s : Strips) : Type 0 where
+    pub has : Has table rest (s .first) (s .count)
+    pub inFile : inside table len (s .first) (s .count) ≡ true
+    pub reach : 0 < r .w → 0 < r .h → windowEnd d r ≤ total table (s .first) (s .count)
 
-    pub plane-within : (first : ℕ) → planeStrips d table len scene t c z ≡ accepted first → 0 < d .dims .y → Within (wholePicture d) first
-    plane-within first e h =
-        let a = accepted-by-plane d table len scene t c z (wholePicture d) (omega arith) (omega arith) h first e in
-        record { has = first-told first (a .channel); inFile = a .within; reach = a .reach }
+  -- "t, c, z": a coordinate that is accepted is there
+  coordinate-there : (co : Coordinate) → Accepting (λ (u : Unit {0}). (co .c < d .dims .c) × (co .z < d .dims .z)) (coordinateThere d co)
+  unfolding coordinateThere coordinates
+  coordinate-there co =
+      accepting-then _ _ _ (λ _.
+      accepting-map _ _ _ (λ _ e.
+      let h = both-hold (ltb (co .t) (d .dims .t) && ltb (co .c) (d .dims .c)) (ltb (co .z) (d .dims .z)) e in
+      (ltb-true _ _ (both-hold (ltb (co .t) (d .dims .t)) (ltb (co .c) (d .dims .c)) (h .0) .1), ltb-true _ _ (h .1)))
+      (accepting-need (noPicture co) (ltb (co .t) (d .dims .t) && ltb (co .c) (d .dims .c) && ltb (co .z) (d .dims .z))))
 
-    pub region-within : (r : Rect) (first : ℕ) → r .x + r .w ≤ d .dims .x → r .y + r .h ≤ d .dims .y → 0 < r .h
-        → regionStrips d table len scene t c z r ≡ accepted first → Within r first
-    region-within r first w h rows e =
-        let a = region-accepted d table len scene t c z r w h rows first e in
-        record { has = first-told first (a .channel); inFile = a .within; reach = a .reach }
+  module _ (len : ℕ) (co : Coordinate) where
+    pub plane-from-own : planeFrom d (table ++ rest) len co ≡ planeFrom d table len co
+    unfolding planeFrom
+    plane-from-own = bind-accepting _ _ refl (coordinate-there co) (λ _ h. plane-own len co (h .0) (h .1))
 
--- "t, c, z": a coordinate that is accepted is there
-pub coordinate-there : (d : Description) (scene t c z : ℕ) → Accepting (λ (u : Unit {0}). (c < d .dims .c) × (z < d .dims .z)) (coordinate d scene t c z)
-unfolding coordinate coordinates
-coordinate-there d scene t c z =
-    accepting-then _ _ _ (λ _.
-    accepting-map _ _ _ (λ _ e.
-    let h = both-hold (ltb t (d .dims .t) && ltb c (d .dims .c)) (ltb z (d .dims .z)) e in
-    (ltb-true _ _ (both-hold (ltb t (d .dims .t)) (ltb c (d .dims .c)) (h .0) .1), ltb-true _ _ (h .1)))
-    (accepting-need (outOfRange scene t c z) (ltb t (d .dims .t) && ltb c (d .dims .c) && ltb z (d .dims .z))))
+    pub region-from-own : (r : Rect) → regionFrom d (table ++ rest) len co r ≡ regionFrom d table len co r
+    unfolding regionFrom
+    region-from-own r =
+        bind-accepting _ _ refl (coordinate-there co) (λ _ h. bind-law _ refl (λ _. filled-own len co (h .0) (h .1) (isEmpty r) r))
+
+    pub plane-within : (s : Strips) → planeFrom d table len co ≡ accepted s → Within len (wholePicture d) s
+    plane-within s e =
+        plane-from-then d table len co s e
+        (λ u k p.
+        let a = plane-accepted d table len co s p in
+        let h = accepting-told _ _ u (coordinate-there co) k in
+        record {
+          has = strips-told len co (h .0) (h .1) s (a .channel);
+          inFile = a .within;
+          reach = λ _ l. accepted-by-plane d table len co (wholePicture d) (omega arith) (omega arith) l s p .reach;
+        })
+
+    pub region-within : (r : Rect) (s : Strips) → regionFrom d table len co r ≡ accepted s → Within len r s
+    unfolding inside
+    region-within r s e =
+        region-from-then d table len co r s e
+        (λ u v k p i q.
+        subst (λ (n : Strips). Within len r n) q
+        (record { has = omega arith; inFile = refl; reach = λ a b. empty-then r i (λ z. absurd (omega arith)) (λ z. absurd (omega arith)) }))
+        (λ u v k p i m.
+        let l = rectangle-within (d .dims) r v p in
+        let a = region-accepted d table len co r (l .0) (l .1) (not-empty r i .1) s m in
+        let h = accepting-told _ _ u (coordinate-there co) k in
+        record { has = strips-told len co (h .0) (h .1) s (a .channel); inFile = a .within; reach = λ _ _. a .reach })

@@ -10,7 +10,7 @@ use mathlib.Core.List.{List}
 use lib.ListN.{length, getD}
 use Rattle.lsm_format.specs.Answer.{Result, accepted}
 use Rattle.lsm_format.specs.Ranges.{Ranges, flat, Inside}
-use Rattle.lsm_format.specs.Rectangle.{Rect}
+use Rattle.lsm_format.specs.Rectangle.{Rect, Coordinate}
 use Rattle.lsm_format.specs.Channels.{Channel, lookup, lookupMemory}
 use Rattle.lsm_format.specs.Open.{Opened, openFile, openMemory}
 use Rattle.lsm_format.specs.Picture.{Samples, plane, region, into, bufferBy}
@@ -31,11 +31,11 @@ pub record Held (f : List ℕ) : Type 0 where
 
 -- ---- the later calls, with what is held
 
-abbrev pub planeOf : (f : List ℕ) → Held f → ℕ → ℕ → ℕ → ℕ → Result Samples
-planeOf f h scene t c z = plane (h .opened .description) (openMemory f (h .lent)) f scene t c z
+abbrev pub planeOf : (f : List ℕ) → Held f → Coordinate → Result Samples
+planeOf f h co = plane (h .opened .description) (openMemory f (h .lent)) f co
 
-abbrev pub regionOf : (f : List ℕ) → Held f → ℕ → ℕ → ℕ → ℕ → Rect → Result Samples
-regionOf f h scene t c z r = region (h .opened .description) (openMemory f (h .lent)) f scene t c z r
+abbrev pub regionOf : (f : List ℕ) → Held f → Coordinate → Rect → Result Samples
+regionOf f h co r = region (h .opened .description) (openMemory f (h .lent)) f co r
 
 abbrev pub lookupOf : (f : List ℕ) → Held f → ℕ → ℕ → Result Channel
 lookupOf f h channel room =
@@ -57,29 +57,29 @@ pub record OpensAlike (f g : List ℕ) : Type 0 where
 
 -- Before and after, with what the opening of that same file gave: the same samples or refusal, whatever room the buffer has, and the same
 -- left in the buffer.
-pub record RegionAlike (f g : List ℕ) (scene t c z : ℕ) (r : Rect) : Type 0 where
-  pub regionAnswer : (a : Held f) (b : Held g) (room : ℕ) → into (regionOf g b scene t c z r) room ≡ into (regionOf f a scene t c z r) room
+pub record RegionAlike (f g : List ℕ) (co : Coordinate) (r : Rect) : Type 0 where
+  pub regionAnswer : (a : Held f) (b : Held g) (room : ℕ) → into (regionOf g b co r) room ≡ into (regionOf f a co r) room
   pub regionLeaves : (a : Held f) (b : Held g) (buffer : List ℕ) →
-      bufferBy (regionOf g b scene t c z r) buffer ≡ bufferBy (regionOf f a scene t c z r) buffer
+      bufferBy (regionOf g b co r) buffer ≡ bufferBy (regionOf f a co r) buffer
 
 -- ---- every call
 
 -- "Opening, and then, with what it gave, every call of plane, region or channel lookup, whatever its other arguments, answers alike"
 pub record Blind (f g : List ℕ) : Type 0 where
   pub opening : OpensAlike f g
-  pub planeAnswer : (a : Held f) (b : Held g) (scene t c z room : ℕ) →
-      into (planeOf g b scene t c z) room ≡ into (planeOf f a scene t c z) room
-  pub planeLeaves : (a : Held f) (b : Held g) (scene t c z : ℕ) (buffer : List ℕ) →
-      bufferBy (planeOf g b scene t c z) buffer ≡ bufferBy (planeOf f a scene t c z) buffer
-  pub regions : (scene t c z : ℕ) (r : Rect) → RegionAlike f g scene t c z r
+  pub planeAnswer : (a : Held f) (b : Held g) (co : Coordinate) (room : ℕ) →
+      into (planeOf g b co) room ≡ into (planeOf f a co) room
+  pub planeLeaves : (a : Held f) (b : Held g) (co : Coordinate) (buffer : List ℕ) →
+      bufferBy (planeOf g b co) buffer ≡ bufferBy (planeOf f a co) buffer
+  pub regions : (co : Coordinate) (r : Rect) → RegionAlike f g co r
   pub lookupAnswer : (a : Held f) (b : Held g) (channel room : ℕ) → lookupOf g b channel room ≡ lookupOf f a channel room
   pub lookupLeaves : (a : Held f) (b : Held g) (channel : ℕ) (buffer : List ℕ) →
       lookupLeft g b channel buffer ≡ lookupLeft f a channel buffer
 
 -- "opening and that rectangle's call then answer alike"
-pub record BlindFor (f g : List ℕ) (scene t c z : ℕ) (r : Rect) : Type 0 where
+pub record BlindFor (f g : List ℕ) (co : Coordinate) (r : Rect) : Type 0 where
   pub opening : OpensAlike f g
-  pub rectangle : RegionAlike f g scene t c z r
+  pub rectangle : RegionAlike f g co r
 
 -- ---- the statement
 
@@ -89,4 +89,4 @@ SpareBytes = (f g : List ℕ) → Overwritten (listed f) f g → Blind f g
 
 -- "For one rectangle, of the strips only the places of its samples"
 abbrev pub SpareSamples : Type 0
-SpareSamples = (f g : List ℕ) (scene t c z : ℕ) (r : Rect) → Overwritten (listedFor f scene t c z r) f g → BlindFor f g scene t c z r
+SpareSamples = (f g : List ℕ) (co : Coordinate) (r : Rect) → Overwritten (listedFor f co r) f g → BlindFor f g co r

@@ -9,19 +9,16 @@ use mathlib.Core.List.{List, [], _∷_, _++_}
 use lib.ListN.{length, take, drop}
 use Rattle.lsm_format.specs.Answer.{Result, accepted, refused}
 use Rattle.lsm_format.specs.Sizes.{sampleSize}
-use Rattle.lsm_format.specs.Rectangle.{Dims, Rect}
+use Rattle.lsm_format.specs.Rectangle.{Dims, Rect, Coordinate}
+use Rattle.lsm_format.specs.Scenes.{pageNumber}
 use Rattle.lsm_format.specs.Open.{Description}
-use Rattle.lsm_format.specs.Picture.{Samples, offsetOf, countOf, firstStrip, toLittle, wholePicture, plane, region, into}
+use Rattle.lsm_format.specs.Picture.{Strips, Samples, offsetOf, countOf, samplePlace, stripsOn, toLittle, wholePicture, plane, region, into}
 
 -- ---- "the picture defined under 2", by what the caller names
 
--- "Page of a picture: scene × depth + z", whatever t is: a file that opens has one time point.
-abbrev pub pageNumber : Description → ℕ → ℕ → ℕ → ℕ
-pageNumber d scene t z = scene * d .layout .depth + z
-
--- The first of the channel's strips on that page; it has as many as the description says.
-abbrev pub channelFirst : Description → ℕ → ℕ → ℕ → ℕ → ℕ
-channelFirst d scene t c z = firstStrip d (pageNumber d scene t z) c
+-- The strips of the channel on "Page of a picture: scene × depth + z".
+abbrev pub namedStrips : Description → Coordinate → Strips
+namedStrips d co = stripsOn d (pageNumber (d .layout) co) (co .c)
 
 -- n strips from strip i on, joined: the bytes of one after those of the other.
 unfoldable pub joined : List ℕ → List ℕ → ℕ → ℕ → List ℕ
@@ -29,44 +26,44 @@ joined f table i zero = []
 joined f table i (suc n) = take (countOf table i) (drop (offsetOf table i) f) ++ joined f table (i + 1) n
 
 -- "the picture meant is always the channel's joined strips"
-unfoldable pub joinedStrips : Description → List ℕ → List ℕ → ℕ → ℕ → ℕ → ℕ → List ℕ
-joinedStrips d table f scene t c z = joined f table (channelFirst d scene t c z) (d .stripsPerChannel)
+unfoldable pub joinedStrips : Description → List ℕ → List ℕ → Coordinate → List ℕ
+joinedStrips d table f co = joined f table (namedStrips d co .first) (namedStrips d co .count)
 
--- Of samples of s bytes, one after the other, the one with number n.
-abbrev pub sampleOf : List ℕ → ℕ → ℕ → List ℕ
-sampleOf bytes s n = take s (drop (n * s) bytes)
+-- "with the sample at row, column stored at (row × width + column) × sample size": of bytes that are so many samples wide, of size s each
+abbrev pub sampleOf : List ℕ → ℕ → ℕ → ℕ → ℕ → List ℕ
+sampleOf bytes width s row column = take s (drop (samplePlace width s row column) bytes)
 
--- "with the sample at row, column stored at (row × width + column) × sample size"; "little-endian whatever the file's order"
-unfoldable pub pictureSample : Description → List ℕ → List ℕ → ℕ → ℕ → ℕ → ℕ → ℕ → ℕ → List ℕ
-pictureSample d table f scene t c z row column =
-    toLittle (d .order) (sampleOf (joinedStrips d table f scene t c z) (sampleSize (d .kind)) (row * d .dims .x + column))
+-- "little-endian whatever the file's order"
+unfoldable pub pictureSample : Description → List ℕ → List ℕ → Coordinate → ℕ → ℕ → List ℕ
+pictureSample d table f co row column =
+    toLittle (d .order) (sampleOf (joinedStrips d table f co) (d .dims .x) (sampleSize (d .kind)) row column)
 
 -- A sample that is there, all of it: the channel's strips are in the table, each of them lies in the file, and joined they have the sample's
 -- bytes. So no byte is made up for one that is missing.
-pub record There (d : Description) (table f : List ℕ) (scene t c z row column : ℕ) : Type 0 where
-  pub inTable : 2 * (channelFirst d scene t c z + d .stripsPerChannel) ≤ length table
-  pub inFile : (k : ℕ) → k < d .stripsPerChannel →
-      offsetOf table (channelFirst d scene t c z + k) + countOf table (channelFirst d scene t c z + k) ≤ length f
-  pub inStrips : (row * d .dims .x + column) * sampleSize (d .kind) + sampleSize (d .kind) ≤ length (joinedStrips d table f scene t c z)
+pub record There (d : Description) (table f : List ℕ) (co : Coordinate) (row column : ℕ) : Type 0 where
+  pub inTable : 2 * (namedStrips d co .first + namedStrips d co .count) ≤ length table
+  pub inFile : (k : ℕ) → k < namedStrips d co .count →
+      offsetOf table (namedStrips d co .first + k) + countOf table (namedStrips d co .first + k) ≤ length f
+  pub inStrips : samplePlace (d .dims .x) (sampleSize (d .kind)) row column + sampleSize (d .kind) ≤ length (joinedStrips d table f co)
 
 -- ---- an answer
 
 -- Rows, columns and bytes that are a rectangle of the picture.
-pub record Exact (d : Description) (table f : List ℕ) (scene t c z : ℕ) (r : Rect) (rows columns : ℕ) (bytes : List ℕ) : Type 0 where
+pub record Exact (d : Description) (table f : List ℕ) (co : Coordinate) (r : Rect) (rows columns : ℕ) (bytes : List ℕ) : Type 0 where
   -- "of h rows and w columns"
   pub high : rows ≡ r .h
   pub wide : columns ≡ r .w
   -- "has at i, j, for every i below h and j below w, exactly the sample at y + i, x + j": "the one at i, j of an answer w columns wide stands
   -- at (i × w + j) × sample size"
   pub sample : (i j : ℕ) → i < r .h → j < r .w →
-      sampleOf bytes (sampleSize (d .kind)) (i * r .w + j) ≡ pictureSample d table f scene t c z (r .y + i) (r .x + j)
-  pub there : (i j : ℕ) → i < r .h → j < r .w → There d table f scene t c z (r .y + i) (r .x + j)
+      sampleOf bytes (r .w) (sampleSize (d .kind)) i j ≡ pictureSample d table f co (r .y + i) (r .x + j)
+  pub there : (i j : ℕ) → i < r .h → j < r .w → There d table f co (r .y + i) (r .x + j)
   -- "and nothing more"
   pub size : length bytes ≡ r .h * r .w * sampleSize (d .kind)
 
 -- The same in the caller's buffer: so many bytes at its front, which have room there ("a buffer long enough"); past them it is as it was.
-pub record Delivered (d : Description) (table f : List ℕ) (scene t c z : ℕ) (r : Rect) (before after : List ℕ) (rows columns bytes : ℕ) : Type 0 where
-  pub exact : Exact d table f scene t c z r rows columns (take bytes after)
+pub record Delivered (d : Description) (table f : List ℕ) (co : Coordinate) (r : Rect) (before after : List ℕ) (rows columns bytes : ℕ) : Type 0 where
+  pub exact : Exact d table f co r rows columns (take bytes after)
   pub count : bytes ≡ r .h * r .w * sampleSize (d .kind)
   pub long : bytes ≤ length before
   pub past : drop bytes after ≡ drop bytes before
@@ -86,15 +83,15 @@ pub record Inside (d : Dims) (r : Rect) : Type 0 where
 
 -- "Whatever description, table and file are given, [..] each accepted rectangle": what region gives before the buffer's room is asked for.
 abbrev pub EachRectangle : Type 0
-EachRectangle = (d : Description) (table f : List ℕ) (scene t c z : ℕ) (r : Rect) (a : Samples) →
-    region d table f scene t c z r ≡ accepted a → Exact d table f scene t c z r (a .rows) (a .columns) (a .bytes)
+EachRectangle = (d : Description) (table f : List ℕ) (co : Coordinate) (r : Rect) (a : Samples) →
+    region d table f co r ≡ accepted a → Exact d table f co r (a .rows) (a .columns) (a .bytes)
 
 -- The same of a whole picture.
 abbrev pub EachPlane : Type 0
-EachPlane = (d : Description) (table f : List ℕ) (scene t c z : ℕ) (a : Samples) →
-    plane d table f scene t c z ≡ accepted a → Exact d table f scene t c z (wholePicture d) (a .rows) (a .columns) (a .bytes)
+EachPlane = (d : Description) (table f : List ℕ) (co : Coordinate) (a : Samples) →
+    plane d table f co ≡ accepted a → Exact d table f co (wholePicture d) (a .rows) (a .columns) (a .bytes)
 
 -- "every rectangle inside an accepted picture is accepted", whatever the rooms of the two buffers
 abbrev pub EveryInside : Type 0
-EveryInside = (d : Description) (table f : List ℕ) (scene t c z : ℕ) (r : Rect) (room room′ : ℕ) →
-    Accepted (into (plane d table f scene t c z) room) → Inside (d .dims) r → Accepted (into (region d table f scene t c z r) room′)
+EveryInside = (d : Description) (table f : List ℕ) (co : Coordinate) (r : Rect) (room room′ : ℕ) →
+    Accepted (into (plane d table f co) room) → Inside (d .dims) r → Accepted (into (region d table f co r) room′)

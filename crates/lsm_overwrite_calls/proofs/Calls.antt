@@ -10,7 +10,7 @@ use Rattle.lsm_format.specs.Answer.{Result, accepted, refused}
 use Rattle.lsm_format.specs.Open as Rule
 use Rattle.lsm_format.specs.Open.{openFile, openMemory}
 use Rattle.lsm_format.specs.Picture.{Samples, plane, region, into, bufferBy}
-use Rattle.lsm_format.specs.Rectangle.{Rect}
+use Rattle.lsm_format.specs.Rectangle.{Rect, Coordinate}
 use Rattle.lsm_format.specs.Listed.{listed, listedFor}
 use Rattle.lsm_channel_colors.specs.Code.{Looked, Seen, seen}
 use Rattle.lsm_description.specs.Code.{descriptionOf}
@@ -49,13 +49,13 @@ gave f lent t x o = gave-by f lent t x (openFile f (length lent)) refl (o .answe
 -- ---- two calls
 
 -- with the description and the table as they are held
-plane-held : (f : List ℕ) (d d₀ : Rule.Description) (t t₀ : List ℕ) → d ≡ d₀ → t ≡ t₀ → (scene k c z : ℕ) (before after : List ℕ) (a : Result (ℕ × ℕ × ℕ)) →
-    Pictured (plane d t f scene k c z) before after a → Pictured (plane d₀ t₀ f scene k c z) before after a
-plane-held f d d₀ t t₀ e q scene k c z before after a p = rw (e, q) at p
+plane-held : (f : List ℕ) (d d₀ : Rule.Description) (t t₀ : List ℕ) → d ≡ d₀ → t ≡ t₀ → (co : Coordinate) (before after : List ℕ) (a : Result (ℕ × ℕ × ℕ)) →
+    Pictured (plane d t f co) before after a → Pictured (plane d₀ t₀ f co) before after a
+plane-held f d d₀ t t₀ e q co before after a p = rw (e, q) at p
 
-region-held : (f : List ℕ) (d d₀ : Rule.Description) (t t₀ : List ℕ) → d ≡ d₀ → t ≡ t₀ → (scene k c z : ℕ) (r : Rect) (before after : List ℕ) (a : Result (ℕ × ℕ × ℕ)) →
-    Pictured (region d t f scene k c z r) before after a → Pictured (region d₀ t₀ f scene k c z r) before after a
-region-held f d d₀ t t₀ e q scene k c z r before after a p = rw (e, q) at p
+region-held : (f : List ℕ) (d d₀ : Rule.Description) (t t₀ : List ℕ) → d ≡ d₀ → t ≡ t₀ → (co : Coordinate) (r : Rect) (before after : List ℕ) (a : Result (ℕ × ℕ × ℕ)) →
+    Pictured (region d t f co r) before after a → Pictured (region d₀ t₀ f co r) before after a
+region-held f d d₀ t t₀ e q co r before after a p = rw (e, q) at p
 
 pub LookedBy : List ℕ → Rule.Description → ℕ → List ℕ → List ℕ → Result Seen → Type 0
 LookedBy f d channel before after a = Looked (d .order) f (d .channelBlock) (d .dims .c) channel before after a
@@ -79,34 +79,34 @@ module _ (f g : List ℕ) (alike : OpensAlike f g) where
 -- The later calls, each with the description and the table that opening that same file gave.
 module _ (f g lent lent′ t t′ : List ℕ) (x y : Opened) (o : OpenedAs f lent t (OpenedWith x)) (o′ : OpenedAs g lent′ t′ (OpenedWith y)) where
   -- `region`
-  region-by : (scene t₀ c z : ℕ) (r : Rect) (alike : RegionAlike f g scene t₀ c z r) (before after after′ : List ℕ) (a a′ : Result (ℕ × ℕ × ℕ)) →
-      Pictured (region (descriptionOf (x .description)) t f scene t₀ c z r) before after a →
-      Pictured (region (descriptionOf (y .description)) t′ g scene t₀ c z r) before after′ a′ → (a′ ≡ a) × (after′ ≡ after)
-  region-by scene t₀ c z r alike before after after′ a a′ p p′ =
+  region-by : (co : Coordinate) (r : Rect) (alike : RegionAlike f g co r) (before after after′ : List ℕ) (a a′ : Result (ℕ × ℕ × ℕ)) →
+      Pictured (region (descriptionOf (x .description)) t f co r) before after a →
+      Pictured (region (descriptionOf (y .description)) t′ g co r) before after′ a′ → (a′ ≡ a) × (after′ ≡ after)
+  region-by co r alike before after after′ a a′ p p′ =
       let h = gave f lent t x o in
       let k = gave g lent′ t′ y o′ in
       pictured-alike _ _ before after after′ a a′ (alike .regionAnswer (h .held) (k .held) (length before)) (alike .regionLeaves (h .held) (k .held) before)
-      (region-held f _ _ t _ (h .description) (h .table) scene t₀ c z r before after a p)
-      (region-held g _ _ t′ _ (k .description) (k .table) scene t₀ c z r before after′ a′ p′)
+      (region-held f _ _ t _ (h .description) (h .table) co r before after a p)
+      (region-held g _ _ t′ _ (k .description) (k .table) co r before after′ a′ p′)
 
   -- with the whole list: every call
   module _ (w : Overwritten (listed f) f g) where
     -- `plane`
-    pub plane-alike : (scene t₀ c z : ℕ) (before after after′ : List ℕ) (a a′ : Result (ℕ × ℕ × ℕ)) →
-        Pictured (plane (descriptionOf (x .description)) t f scene t₀ c z) before after a →
-        Pictured (plane (descriptionOf (y .description)) t′ g scene t₀ c z) before after′ a′ → (a′ ≡ a) × (after′ ≡ after)
-    plane-alike scene t₀ c z before after after′ a a′ p p′ =
+    pub plane-alike : (co : Coordinate) (before after after′ : List ℕ) (a a′ : Result (ℕ × ℕ × ℕ)) →
+        Pictured (plane (descriptionOf (x .description)) t f co) before after a →
+        Pictured (plane (descriptionOf (y .description)) t′ g co) before after′ a′ → (a′ ≡ a) × (after′ ≡ after)
+    plane-alike co before after after′ a a′ p p′ =
         let h = gave f lent t x o in
         let k = gave g lent′ t′ y o′ in
         let b = blind f g w in
-        pictured-alike _ _ before after after′ a a′ (b .planeAnswer (h .held) (k .held) scene t₀ c z (length before)) (b .planeLeaves (h .held) (k .held) scene t₀ c z before)
-        (plane-held f _ _ t _ (h .description) (h .table) scene t₀ c z before after a p)
-        (plane-held g _ _ t′ _ (k .description) (k .table) scene t₀ c z before after′ a′ p′)
+        pictured-alike _ _ before after after′ a a′ (b .planeAnswer (h .held) (k .held) co (length before)) (b .planeLeaves (h .held) (k .held) co before)
+        (plane-held f _ _ t _ (h .description) (h .table) co before after a p)
+        (plane-held g _ _ t′ _ (k .description) (k .table) co before after′ a′ p′)
 
-    pub region-alike : (scene t₀ c z : ℕ) (r : Rect) (before after after′ : List ℕ) (a a′ : Result (ℕ × ℕ × ℕ)) →
-        Pictured (region (descriptionOf (x .description)) t f scene t₀ c z r) before after a →
-        Pictured (region (descriptionOf (y .description)) t′ g scene t₀ c z r) before after′ a′ → (a′ ≡ a) × (after′ ≡ after)
-    region-alike scene t₀ c z r = region-by scene t₀ c z r (blind f g w .regions scene t₀ c z r)
+    pub region-alike : (co : Coordinate) (r : Rect) (before after after′ : List ℕ) (a a′ : Result (ℕ × ℕ × ℕ)) →
+        Pictured (region (descriptionOf (x .description)) t f co r) before after a →
+        Pictured (region (descriptionOf (y .description)) t′ g co r) before after′ a′ → (a′ ≡ a) × (after′ ≡ after)
+    region-alike co r = region-by co r (blind f g w .regions co r)
 
     -- `channel`
     pub channel-alike : (channel : ℕ) (before after after′ : List ℕ) (a a′ : Result Seen) →
@@ -124,7 +124,7 @@ module _ (f g lent lent′ t t′ : List ℕ) (x y : Opened) (o : OpenedAs f len
         )
 
   -- with the list of one rectangle: that rectangle's call
-  pub rectangle-alike : (scene t₀ c z : ℕ) (r : Rect) → Overwritten (listedFor f scene t₀ c z r) f g → (before after after′ : List ℕ) (a a′ : Result (ℕ × ℕ × ℕ)) →
-      Pictured (region (descriptionOf (x .description)) t f scene t₀ c z r) before after a →
-      Pictured (region (descriptionOf (y .description)) t′ g scene t₀ c z r) before after′ a′ → (a′ ≡ a) × (after′ ≡ after)
-  rectangle-alike scene t₀ c z r w = region-by scene t₀ c z r (blind-rectangle f g scene t₀ c z r w .rectangle)
+  pub rectangle-alike : (co : Coordinate) (r : Rect) → Overwritten (listedFor f co r) f g → (before after after′ : List ℕ) (a a′ : Result (ℕ × ℕ × ℕ)) →
+      Pictured (region (descriptionOf (x .description)) t f co r) before after a →
+      Pictured (region (descriptionOf (y .description)) t′ g co r) before after′ a′ → (a′ ≡ a) × (after′ ≡ after)
+  rectangle-alike co r w = region-by co r (blind-rectangle f g co r w .rectangle)

@@ -13,7 +13,7 @@ use lib.ListN.{length, getD, drop}
 use lib.Seq.{take-at, drop-at}
 use borrow.Author.Tests.{leb-true, leb-false}
 use Rattle.lsm_format.specs.Answer.{Result, accepted, refused, bind, need, decode}
-use Rattle.lsm_format.specs.Rectangle.{Rect}
+use Rattle.lsm_format.specs.Rectangle.{Rect, Coordinate}
 use Rattle.lsm_format.specs.Open.{Description}
 use Rattle.lsm_format.specs.Picture.{Samples, wholePicture, plane, region, into, bufferBy}
 use Rattle.lsm_format.proofs.Lent.{lend-room, lend-short, filled-room}
@@ -69,10 +69,10 @@ shape-then (refused row) rows columns bytes e go = let n : _≡_ {A = ℕ} 0 1 =
 
 -- ---- what an accepted call leaves
 
-module _ (d : Description) (t f : List ℕ) (scene time c z : ℕ) (r : Rect) where
-  filled-by : (x : Samples) → Exact d t f scene time c z r (x .rows) (x .columns) (x .bytes) → (before after : List ℕ)
+module _ (d : Description) (t f : List ℕ) (co : Coordinate) (r : Rect) where
+  filled-by : (x : Samples) → Exact d t f co r (x .rows) (x .columns) (x .bytes) → (before after : List ℕ)
       → length (x .bytes) ≤ length before → after ≡ bufferBy (accepted x) before
-      → Delivered d t f scene time c z r before after (x .rows) (x .columns) (length (x .bytes))
+      → Delivered d t f co r before after (x .rows) (x .columns) (length (x .bytes))
   filled-by x exact before after h m =
       let e = m ∙ filled-room (x .bytes) before h in
       record {
@@ -82,9 +82,9 @@ module _ (d : Description) (t f : List ℕ) (scene time c z : ℕ) (r : Rect) wh
         past = rw (e, drop-at (x .bytes) (drop (length (x .bytes)) before) (length (x .bytes)) refl);
       }
 
-  delivered : (s : Result Samples) → ((x : Samples) → s ≡ accepted x → Exact d t f scene time c z r (x .rows) (x .columns) (x .bytes))
+  delivered : (s : Result Samples) → ((x : Samples) → s ≡ accepted x → Exact d t f co r (x .rows) (x .columns) (x .bytes))
       → (before after : List ℕ) (rows columns bytes : ℕ) → accepted (rows, columns, bytes) ≡ shapeOf (into s (length before)) → after ≡ bufferBy s before
-      → Delivered d t f scene time c z r before after rows columns bytes
+      → Delivered d t f co r before after rows columns bytes
   delivered s exact before after rows columns bytes e m =
       shape-then (into s (length before)) rows columns bytes e
       (λ x q a b n.
@@ -92,17 +92,17 @@ module _ (d : Description) (t f : List ℕ) (scene time c z : ℕ) (r : Rect) wh
       (λ l k. rw (a, b, n) (filled-by x (exact x k) before after l (m ∙ ap (λ (o : Result Samples). bufferBy o before) k))))
 
   -- `region`
-  pub region-exact : (before after : List ℕ) (p : Picture) → Pictured (region d t f scene time c z r) before after (answerOf (Read p))
-      → Delivered d t f scene time c z r before after (p .height) (p .width) (p .bytes)
+  pub region-exact : (before after : List ℕ) (p : Picture) → Pictured (region d t f co r) before after (answerOf (Read p))
+      → Delivered d t f co r before after (p .height) (p .width) (p .bytes)
   region-exact before after p k =
-      delivered (region d t f scene time c z r) (each-rectangle d t f scene time c z r) before after (p .height) (p .width) (p .bytes) (k .answered) (k .memory)
+      delivered (region d t f co r) (each-rectangle d t f co r) before after (p .height) (p .width) (p .bytes) (k .answered) (k .memory)
 
 -- `plane`
-pub plane-exact : (d : Description) (t f : List ℕ) (scene time c z : ℕ) (before after : List ℕ) (p : Picture)
-    → Pictured (plane d t f scene time c z) before after (answerOf (Read p))
-    → Delivered d t f scene time c z (wholePicture d) before after (p .height) (p .width) (p .bytes)
-plane-exact d t f scene time c z before after p k =
-    delivered d t f scene time c z (wholePicture d) (plane d t f scene time c z) (each-plane d t f scene time c z) before after (p .height) (p .width) (p .bytes) (k .answered) (k .memory)
+pub plane-exact : (d : Description) (t f : List ℕ) (co : Coordinate) (before after : List ℕ) (p : Picture)
+    → Pictured (plane d t f co) before after (answerOf (Read p))
+    → Delivered d t f co (wholePicture d) before after (p .height) (p .width) (p .bytes)
+plane-exact d t f co before after p k =
+    delivered d t f co (wholePicture d) (plane d t f co) (each-plane d t f co) before after (p .height) (p .width) (p .bytes) (k .answered) (k .memory)
 
 -- ---- a rectangle inside an accepted picture
 
@@ -119,13 +119,13 @@ taken-shape (refused row) (inr e) = inr (e .0, ap (λ (l : List ℕ). refused l)
     same a b e = cc
 
 -- `region` where `plane` accepts, whatever the two buffers
-pub region-inside : (d : Description) (t f : List ℕ) (scene time c z : ℕ) (r : Rect) (before after before′ after′ : List ℕ) (a a′ : PictureAnswer)
-    → Pictured (plane d t f scene time c z) before after (answerOf a) → Accepted (answerOf a) → Inside (d .dims) r
-    → Pictured (region d t f scene time c z r) before′ after′ (answerOf a′) → Accepted (answerOf a′)
-region-inside d t f scene time c z r before after before′ after′ a a′ p u i q =
+pub region-inside : (d : Description) (t f : List ℕ) (co : Coordinate) (r : Rect) (before after before′ after′ : List ℕ) (a a′ : PictureAnswer)
+    → Pictured (plane d t f co) before after (answerOf a) → Accepted (answerOf a) → Inside (d .dims) r
+    → Pictured (region d t f co r) before′ after′ (answerOf a′) → Accepted (answerOf a′)
+region-inside d t f co r before after before′ after′ a a′ p u i q =
     rw (q .answered)
     (shape-taken _
-    (every-inside d t f scene time c z r (length before) (length before′) (taken-shape _ (rw (p .answered) at u)) i))
+    (every-inside d t f co r (length before) (length before′) (taken-shape _ (rw (p .answered) at u)) i))
 
 -- ---- the C functions
 
@@ -207,11 +207,11 @@ number-taken (refused row) room u (inl n) = absurd (omega (arith, u .0, sym n �
 number-taken (refused row) room u (inr n) = absurd (omega (arith, u .1, sym n ∙ ap numberOf (into-refused row room)))
 
 -- With the description that the words are, where the function returns 0: the answer's words 1 to 3 are rows, columns and bytes.
-module _ (words table f : List ℕ) (scene time c z : ℕ) where
+module _ (words table f : List ℕ) (co : Coordinate) where
   by-words : (rule : Description → Result Samples) (r : Description → Rect)
-      → ((d : Description) (x : Samples) → rule d ≡ accepted x → Exact d table f scene time c z (r d) (x .rows) (x .columns) (x .bytes))
+      → ((d : Description) (x : Samples) → rule d ≡ accepted x → Exact d table f co (r d) (x .rows) (x .columns) (x .bytes))
       → ((d : Description) → Lower (rule d)) → (lent out answer : List ℕ) → PicturedBy (bind (describedBy words) rule) lent out answer 0
-      → (d : Description) × (describedBy words ≡ accepted d) × Delivered d table f scene time c z (r d) lent out (getD answer 1 0) (getD answer 2 0) (getD answer 3 0)
+      → (d : Description) × (describedBy words ≡ accepted d) × Delivered d table f co (r d) lent out (getD answer 1 0) (getD answer 2 0) (getD answer 3 0)
   by-words rule r exact low lent out answer p =
       returned-nought (bind (describedBy words) rule) (length lent) (lower-bind _ _ (described-lower words) low) (p .returned)
       (λ x e i.
@@ -223,35 +223,35 @@ module _ (words table f : List ℕ) (scene time c z : ℕ) where
         d,
         k,
         rw (n .0, n .1, n .2)
-            (filled-by d table f scene time c z (r d) x (exact d x q) lent out l (p .memory ∙ ap (λ (m : Result Samples). bufferBy m lent) e)),
+            (filled-by d table f co (r d) x (exact d x q) lent out l (p .memory ∙ ap (λ (m : Result Samples). bufferBy m lent) e)),
       ))))
 
   -- `lsm_region`
-  pub lsm-region-exact : (r : Rect) (lent out answer : List ℕ) → PicturedBy (regionBy words table f scene time c z r) lent out answer 0
-      → (d : Description) × (describedBy words ≡ accepted d) × Delivered d table f scene time c z r lent out (getD answer 1 0) (getD answer 2 0) (getD answer 3 0)
+  pub lsm-region-exact : (r : Rect) (lent out answer : List ℕ) → PicturedBy (regionBy words table f co r) lent out answer 0
+      → (d : Description) × (describedBy words ≡ accepted d) × Delivered d table f co r lent out (getD answer 1 0) (getD answer 2 0) (getD answer 3 0)
   unfolding regionBy
   lsm-region-exact r lent out answer p =
-      by-words (λ d. region d table f scene time c z r) (λ d. r) (λ d. each-rectangle d table f scene time c z r)
-      (λ d. region-lower d table f scene time c z r) lent out answer p
+      by-words (λ d. region d table f co r) (λ d. r) (λ d. each-rectangle d table f co r)
+      (λ d. region-lower d table f co r) lent out answer p
 
   -- `lsm_plane`
-  pub lsm-plane-exact : (lent out answer : List ℕ) → PicturedBy (planeBy words table f scene time c z) lent out answer 0
+  pub lsm-plane-exact : (lent out answer : List ℕ) → PicturedBy (planeBy words table f co) lent out answer 0
       → (d : Description) × (describedBy words ≡ accepted d)
-      × Delivered d table f scene time c z (wholePicture d) lent out (getD answer 1 0) (getD answer 2 0) (getD answer 3 0)
+      × Delivered d table f co (wholePicture d) lent out (getD answer 1 0) (getD answer 2 0) (getD answer 3 0)
   unfolding planeBy
   lsm-plane-exact lent out answer p =
-      by-words (λ d. plane d table f scene time c z) (λ d. wholePicture d) (λ d. each-plane d table f scene time c z)
-      (λ d. plane-lower d table f scene time c z) lent out answer p
+      by-words (λ d. plane d table f co) (λ d. wholePicture d) (λ d. each-plane d table f co)
+      (λ d. plane-lower d table f co) lent out answer p
 
   -- `lsm_region` where `lsm_plane` accepts (returns 0 or 7), whatever the two buffers
   pub lsm-region-inside : (d : Description) (r : Rect) (lent out answer lent′ out′ answer′ : List ℕ) (n n′ : ℕ) → describedBy words ≡ accepted d
-      → PicturedBy (planeBy words table f scene time c z) lent out answer n → Taken n → Inside (d .dims) r
-      → PicturedBy (regionBy words table f scene time c z r) lent′ out′ answer′ n′ → Taken n′
+      → PicturedBy (planeBy words table f co) lent out answer n → Taken n → Inside (d .dims) r
+      → PicturedBy (regionBy words table f co r) lent′ out′ answer′ n′ → Taken n′
   unfolding planeBy regionBy bind
   lsm-region-inside d r lent out answer lent′ out′ answer′ n n′ k p u i q =
-      let a : n ≡ numberOf (into (plane d table f scene time c z) (length lent)) = rw k at (p .returned) in
-      let b : n′ ≡ numberOf (into (region d table f scene time c z r) (length lent′)) = rw k at (q .returned) in
+      let a : n ≡ numberOf (into (plane d table f co) (length lent)) = rw k at (p .returned) in
+      let b : n′ ≡ numberOf (into (region d table f co r) (length lent′)) = rw k at (q .returned) in
       rw b
       (taken-number _
-      (every-inside d table f scene time c z r (length lent) (length lent′)
-      (number-taken (plane d table f scene time c z) (length lent) (plane-lower d table f scene time c z) (rw a at u)) i))
+      (every-inside d table f co r (length lent) (length lent′)
+      (number-taken (plane d table f co) (length lent) (plane-lower d table f co) (rw a at u)) i))

@@ -7,6 +7,8 @@ use lsm_format::checked::checked_add;
 use lsm_format::checked::checked_mul;
 use lsm_format::error::Refusal;
 ghost use mathlib.Core.Path.{_≡_};
+ghost use Prim.Native.Nat.{ℕ};
+ghost use Rattle.lsm_format.specs.Rectangle.{coordinate};
 ghost use Rattle.lsm_format.specs.Scenes.{count, layout, pagesExpected, pageOf};
 ghost use Rattle.lsm_positions.specs.Code.{layoutOf, countOf, answerOf, pagesOf, indexOf};
 
@@ -88,7 +90,7 @@ impl LsmLayout {
 
     // The page of a scene's focal plane: the file has every page of the first scene, then every page of the second, and so on.
     pub fn page_index(self, scene: usize, z: usize) -> PageIndex
-        ensures { λ r. ⌜ indexOf r ≡ pageOf (layoutOf self) scene z ⌝ }
+        ensures { λ r. ⌜ ((t c : ℕ) → indexOf r ≡ pageOf (layoutOf self) (coordinate scene t c z)) ⌝ }
     {
         if self.scenes <= scene {
             return PageIndex::Outside;

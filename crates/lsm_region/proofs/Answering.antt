@@ -1,27 +1,29 @@
 -- Laws of what is given: what makes a rectangle ready to be copied, and what is left in the sample buffer. Assumes nothing.
 use Prim.Native.Nat.{ℕ, _+_, _-_, _*_, _^_, _<_, _≤_}
-use native.Mathlib.Nat.{add-mul, zero-mul, lt-of-not-le, mul-comm, mul-le-mul, mul-le-mul-right, le-mul-of-pos-right, add-sub-cancel-left, min-eq-left}
+use native.Mathlib.Nat.{add-mul, zero-mul, mul-zero, lt-of-not-le, mul-comm, mul-le-mul, mul-le-mul-right, le-mul-of-pos-right, add-sub-cancel-left, min-eq-left}
 use native.Mathlib.Omega.{arith}
 use mathlib.Core.Path.{_≡_, refl, sym, ap, subst, _∙_}
 use mathlib.Core.Logic.{inl, inr}
-use mathlib.Core.Bool.{Bool, true, false}
-use mathlib.Core.List.{List, [], _++_, reverse}
-use mathlib.Core.Option.{Option, none, some}
+use mathlib.Core.Bool.{true}
+use mathlib.Core.List.{List, [], _∷_, _++_, reverse}
 use lib.ListN.{length, drop}
 use Rattle.lsm_format.specs.Answer.{Result, accepted, refused, bind, tooShort}
 use Rattle.lsm_format.specs.Numbers.{Order, little, big}
 use Rattle.lsm_format.specs.Open.{Description}
-use Rattle.lsm_format.specs.Rectangle.{Rect, rectangle, isEmpty}
+use Rattle.lsm_format.specs.Rectangle.{Rect, Coordinate, isEmpty}
 use Rattle.lsm_format.specs.Sizes.{Kind, u8, u16, i16, f32, sampleSize, pictureBytes}
-use Rattle.lsm_format.specs.Picture.{Samples, stored, span, bytes, picture, each, toLittle, window, channelPicture, samplesIn, rowBytes, into, coordinate, planeStrips, wholePicture, plane, regionStrips, filledRegion, region}
+use Rattle.lsm_format.specs.Picture.{Strips, Samples, stored, inside, span, bytes, picture, each, toLittle, window, channelPicture, samplesIn, rowBytes, into, wholePicture, planeFrom, plane, noStrips, regionFrom, region}
 use Rattle.lsm_format.proofs.Lent.{lend-room, lend-short, filled-room, filled-short}
-use Rattle.lsm_format.proofs.Picture.{held, picture-length, window-rows, window-cong, window-each, plane-accepted, coordinate-channel, rectangle-within, channel-room, bind-then}
-use Rattle.lsm_format.proofs.Region.{size-rows, end-inside, region-accepted, not-empty, samples-length, no-bytes}
+use Rattle.lsm_format.proofs.Picture.{held, picture-length, window-rows, window-cong, window-each, plane-accepted, coordinate-channel, rectangle-within, channel-room}
+use Rattle.lsm_format.proofs.Region.{size-rows, end-inside, region-accepted, empty-then, not-empty, samples-length, plane-from-then, region-from-then}
 use Rattle.lsm_region.specs.Code.{Pictured}
 use Rattle.lsm_region.specs.Ready.{Ready}
 use Rattle.lsm_region.specs.Cursor.{RowsIn, SampleSize}
 use Rattle.lsm_region.proofs.Filling.{flip-one}
-use Rattle.lsm_strips.specs.Parts.{planeFirst, filledFirst, regionFirst}
+
+no-bytes : (l : List ℕ) → length l ≡ 0 → l ≡ []
+no-bytes [] e = refl
+no-bytes (b ∷ l) e = absurd (omega arith)
 
 pub sample-size : (k : Kind) → SampleSize (sampleSize k)
 sample-size u8 = inl refl
@@ -35,6 +37,7 @@ sample-size f32 = inr (inr refl)
 pub record Wide (d : Description) (r : Rect) : Type 0 where
   pub row : rowBytes d < 2 ^ 64
   pub start : r .x * sampleSize (d .kind) + r .w * sampleSize (d .kind) ≤ rowBytes d
+  pub columns : 0 < r .w
   pub part : 0 < r .w * sampleSize (d .kind)
   pub high : 0 < r .h
   pub samples : r .h * r .w < 2 ^ 64
@@ -45,30 +48,31 @@ positive a b h = (pos-left a b h, pos-left b a (rw (mul-comm b a) h))
     pos-left : (a b : ℕ) → 0 < a * b → 0 < a
     pos-left a b h = lt-of-not-le (λ l. (let z : a ≡ 0 = omega arith in let e : a * b ≡ 0 = ap (λ (k : ℕ). k * b) z ∙ zero-mul b in omega arith))
 
-pub wide : {d : Description} {t : List ℕ} {len first : ℕ} {r : Rect} → Ready d t len first r → 0 < pictureBytes (r .w) (r .h) (d .kind) → Wide d r
-wide {d} {t} {len} {first} {r} y h =
-    let s : ℕ = sampleSize (d .kind) in
-    let p = positive (r .w * r .h) s h in
+pub wide : {d : Description} {t : List ℕ} {len : ℕ} {s : Strips} {r : Rect} → Ready d t len s r → 0 < pictureBytes (r .w) (r .h) (d .kind) → Wide d r
+wide {d} {t} {len} {s} {r} y h =
+    let b : ℕ = sampleSize (d .kind) in
+    let p = positive (r .w * r .h) b h in
     let q = positive (r .w) (r .h) (p .0) in
-    let part : 1 * 1 ≤ r .w * s = mul-le-mul (q .0) (p .1) in
+    let part : 1 * 1 ≤ r .w * b = mul-le-mul (q .0) (p .1) in
     record {
-      row = y .line (q .1);
-      start = rw (← add-mul) (mul-le-mul-right s (y .across));
+      row = y .line (q .0) (q .1);
+      start = rw (← add-mul) (mul-le-mul-right b (y .across));
+      columns = q .0;
       part = omega arith;
       high = q .1;
       samples = omega (arith, le-mul-of-pos-right (r .w * r .h) (p .1), y .size, mul-comm (r .h) (r .w));
     }
 
-pub ready-rows : {d : Description} {t : List ℕ} {len first : ℕ} {r : Rect} → Ready d t len first r → Wide d r
-    → RowsIn t len first (first + d .stripsPerChannel) (rowBytes d) (r .y) (r .h) (r .x * sampleSize (d .kind)) (r .w * sampleSize (d .kind))
-ready-rows {d} {t} {len} {first} {r} y w =
-    let q : first + d .stripsPerChannel - first ≡ d .stripsPerChannel = add-sub-cancel-left first (d .stripsPerChannel) in
+pub ready-rows : {d : Description} {t : List ℕ} {len : ℕ} {s : Strips} {r : Rect} → Ready d t len s r → Wide d r
+    → RowsIn t len (s .first) (s .first + s .count) (rowBytes d) (r .y) (r .h) (r .x * sampleSize (d .kind)) (r .w * sampleSize (d .kind))
+ready-rows {d} {t} {len} {s} {r} y w =
+    let q : s .first + s .count - s .first ≡ s .count = add-sub-cancel-left (s .first) (s .count) in
     record {
       words = y .words;
       among = omega arith;
       some = w .part;
       across = w .start;
-      held = rw (q, ← add-mul) (y .held (w .high));
+      held = rw (q, ← add-mul) (y .held (w .columns) (w .high));
       within = rw q (y .within);
     }
 
@@ -78,27 +82,27 @@ one-byte : (o : Order) (sample : List ℕ) → length sample ≡ 1 → sample �
 one-byte little sample e = refl
 one-byte big sample e = flip-one sample e
 
-module _ (d : Description) (t f : List ℕ) (first : ℕ) (r : Rect) (l : List ℕ)
-    (e : l ≡ span (r .y) (r .h) (λ i. bytes (stored f t first (first + d .stripsPerChannel - first)) (i * rowBytes d + r .x * sampleSize (d .kind)) (r .w * sampleSize (d .kind)))) where
-  gathered : l ≡ window (picture (stored f t first (d .stripsPerChannel)) (d .dims .x) (sampleSize (d .kind))) r
+module _ (d : Description) (t f : List ℕ) (s : Strips) (r : Rect) (l : List ℕ)
+    (e : l ≡ span (r .y) (r .h) (λ i. bytes (stored f t (s .first) (s .first + s .count - s .first)) (i * rowBytes d + r .x * sampleSize (d .kind)) (r .w * sampleSize (d .kind)))) where
+  gathered : l ≡ window (picture (stored f t (s .first) (s .count)) (d .dims .x) (sampleSize (d .kind))) r
   gathered =
-      (rw (add-sub-cancel-left first (d .stripsPerChannel)) at e)
-      ∙ sym (window-rows (stored f t first (d .stripsPerChannel)) (d .dims .x) (sampleSize (d .kind)) r)
+      (rw (add-sub-cancel-left (s .first) (s .count)) at e)
+      ∙ sym (window-rows (stored f t (s .first) (s .count)) (d .dims .x) (sampleSize (d .kind)) r)
 
-  pub from-little : d .order ≡ little → l ≡ window (channelPicture d t f first) r
+  pub from-little : d .order ≡ little → l ≡ window (channelPicture d t f s) r
   unfolding channelPicture each
   from-little o = rw o gathered
 
   -- a sample of one byte has no order
-  pub from-one : sampleSize (d .kind) ≡ 1 → l ≡ window (channelPicture d t f first) r
+  pub from-one : sampleSize (d .kind) ≡ 1 → l ≡ window (channelPicture d t f s) r
   unfolding channelPicture each
   from-one o =
       gathered
-      ∙ window-cong (picture (stored f t first (d .stripsPerChannel)) (d .dims .x) (sampleSize (d .kind))) _ r
+      ∙ window-cong (picture (stored f t (s .first) (s .count)) (d .dims .x) (sampleSize (d .kind))) _ r
       (λ i j li ui lj uj. one-byte (d .order) _ (picture-length _ (d .dims .x) (sampleSize (d .kind)) i j ∙ o))
 
   pub from-big : (out : List ℕ) → d .order ≡ big → out ≡ span 0 (r .h * r .w) (λ q. reverse (bytes (held l) (q * sampleSize (d .kind)) (sampleSize (d .kind))))
-      → out ≡ window (channelPicture d t f first) r
+      → out ≡ window (channelPicture d t f s) r
   unfolding channelPicture
   from-big out o turned =
       rw o
@@ -133,131 +137,96 @@ pictured-read a lent size e h =
     }
 
 -- the samples of a rectangle: no room; room; none
-module _ (d : Description) (t f : List ℕ) (first : ℕ) (r : Rect) (lent : List ℕ) (size : ℕ) (e : size ≡ pictureBytes (r .w) (r .h) (d .kind)) where
-  pub given-short : size < 2 ^ 64 → length lent < size → Pictured (accepted (samplesIn d t f r first)) lent lent (refused (tooShort size))
-  given-short fits h = pictured-short (samplesIn d t f r first) lent size (samples-length d t f first r ∙ sym e) fits h
+module _ (d : Description) (t f : List ℕ) (s : Strips) (r : Rect) (lent : List ℕ) (size : ℕ) (e : size ≡ pictureBytes (r .w) (r .h) (d .kind)) where
+  pub given-short : size < 2 ^ 64 → length lent < size → Pictured (accepted (samplesIn d t f r s)) lent lent (refused (tooShort size))
+  given-short fits h = pictured-short (samplesIn d t f r s) lent size (samples-length d t f s r ∙ sym e) fits h
 
-  pub given-read : (out : List ℕ) → size ≤ length lent → out ≡ window (channelPicture d t f first) r
-      → Pictured (accepted (samplesIn d t f r first)) lent (out ++ drop size lent) (accepted (r .h, r .w, size))
+  pub given-read : (out : List ℕ) → size ≤ length lent → out ≡ window (channelPicture d t f s) r
+      → Pictured (accepted (samplesIn d t f r s)) lent (out ++ drop size lent) (accepted (r .h, r .w, size))
   unfolding samplesIn
-  given-read out h q = rw q (pictured-read (samplesIn d t f r first) lent size (samples-length d t f first r ∙ sym e) h)
+  given-read out h q = rw q (pictured-read (samplesIn d t f r s) lent size (samples-length d t f s r ∙ sym e) h)
 
-  pub given-none : size ≡ 0 → Pictured (accepted (samplesIn d t f r first)) lent lent (accepted (r .h, r .w, size))
+  pub given-none : size ≡ 0 → Pictured (accepted (samplesIn d t f r s)) lent lent (accepted (r .h, r .w, size))
   unfolding samplesIn
   given-none z =
-      let n : length (window (channelPicture d t f first) r) ≡ 0 = samples-length d t f first r ∙ sym e ∙ z in
-      let p = given-read [] (omega arith) (sym (no-bytes (window (channelPicture d t f first) r) n)) in
-      subst (λ (k : ℕ). Pictured (accepted (samplesIn d t f r first)) lent (drop k lent) (accepted (r .h, r .w, size))) z p
+      let n : length (window (channelPicture d t f s) r) ≡ 0 = samples-length d t f s r ∙ sym e ∙ z in
+      let p = given-read [] (omega arith) (sym (no-bytes (window (channelPicture d t f s) r) n)) in
+      subst (λ (k : ℕ). Pictured (accepted (samplesIn d t f r s)) lent (drop k lent) (accepted (r .h, r .w, size))) z p
 
 pub pictured-as : {s s′ : Result Samples} {before after : List ℕ} {answer : Result (ℕ × ℕ × ℕ)} → s ≡ s′
     → Pictured s′ before after answer → Pictured s before after answer
 pictured-as e p = rw e p
 
--- ---- plane
+-- ---- plane and region: the checks, then the samples
 
-module _ (d : Description) (t f : List ℕ) (scene time c z : ℕ) where
-  -- the checks, then the samples
-  plane-as : plane d t f scene time c z ≡ bind (planeFirst d t (length f) scene time c z) (λ first. accepted (samplesIn d t f (wholePicture d) first))
-  unfolding plane planeFirst bind
-  plane-as = by (coordinate d scene time c z)
-    where
-      by : (p : Result (Unit {0})) → bind p (λ _. bind (planeStrips d t (length f) scene time c z) (λ first. accepted (samplesIn d t f (wholePicture d) first)))
-          ≡ bind (bind p (λ _. planeStrips d t (length f) scene time c z)) (λ first. accepted (samplesIn d t f (wholePicture d) first))
-      by (accepted u) = refl
-      by (refused row) = refl
+module _ (d : Description) (t f : List ℕ) (co : Coordinate) where
+  pub plane-unfit : (row : List ℕ) → planeFrom d t (length f) co ≡ refused row → plane d t f co ≡ refused row
+  unfolding plane bind
+  plane-unfit row e = rw e
 
-  pub plane-unfit : (row : List ℕ) → planeFirst d t (length f) scene time c z ≡ refused row → plane d t f scene time c z ≡ refused row
-  unfolding bind
-  plane-unfit row e = plane-as ∙ rw e
+  pub plane-fit : (s : Strips) → planeFrom d t (length f) co ≡ accepted s → plane d t f co ≡ accepted (samplesIn d t f (wholePicture d) s)
+  unfolding plane bind
+  plane-fit s e = rw e
 
-  pub plane-fit : (first : ℕ) → planeFirst d t (length f) scene time c z ≡ accepted first
-      → plane d t f scene time c z ≡ accepted (samplesIn d t f (wholePicture d) first)
-  unfolding bind
-  plane-fit first e = plane-as ∙ rw e
+  module _ (r : Rect) where
+    pub region-unfit : (row : List ℕ) → regionFrom d t (length f) co r ≡ refused row → region d t f co r ≡ refused row
+    unfolding region bind
+    region-unfit row e = rw e
 
--- what plane's checks accept can be copied
-pub ready-whole : (d : Description) (t : List ℕ) (len scene time c z first : ℕ) → planeFirst d t len scene time c z ≡ accepted first
-    → Ready d t len first (wholePicture d)
-unfolding planeFirst
-ready-whole d t len scene time c z first e =
-    bind-then (coordinate d scene time c z) _ first e
-    (λ u e₁ e₂.
-    let p = plane-accepted d t len scene time c z first e₂ in
-    let made : pictureBytes (d .dims .x) (d .dims .y) (d .kind) ≡ d .dims .y * rowBytes d = size-rows (d .dims .x) (d .dims .y) (sampleSize (d .kind)) in
-    record {
-      words = channel-room d (length t) scene time c z first (p .channel) (coordinate-channel d scene time c z u e₁);
-      across = omega arith;
-      size = omega (arith, p .small);
-      line = λ l. omega (arith, mul-le-mul-right (rowBytes d) l, p .small);
-      held = λ l. omega (arith, end-inside d (wholePicture d) (omega arith) (omega arith) l, p .summed);
-      within = p .within;
-    })
+    pub region-fit : (s : Strips) → regionFrom d t (length f) co r ≡ accepted s → region d t f co r ≡ accepted (samplesIn d t f r s)
+    unfolding region bind
+    region-fit s e = rw e
 
--- ---- region
+-- ---- what the checks accept can be copied
 
--- what region's checks accept can be copied
-pub ready-part : (d : Description) (t : List ℕ) (len scene time c z first : ℕ) (r : Rect) → regionFirst d t len scene time c z r ≡ accepted (some first)
-    → Ready d t len first r
-unfolding regionFirst
-ready-part d t len scene time c z first r e =
-    bind-then (coordinate d scene time c z) _ (some first) e
-    (λ u e₁ e₂.
-    bind-then (rectangle (d .dims) r) _ (some first) e₂
-    (λ v e₃ e₄.
-    let w = rectangle-within (d .dims) r v e₃ in
-    by (coordinate-channel d scene time c z u e₁) (w .0) (w .1) (isEmpty r) refl e₄))
-  where
-    by : c < d .dims .c → r .x + r .w ≤ d .dims .x → r .y + r .h ≤ d .dims .y → (k : Bool) → isEmpty r ≡ k
-        → filledFirst k d t len scene time c z r ≡ accepted (some first) → Ready d t len first r
-    by h a b true i m = let z : _≡_ {A = ℕ} 0 1 = cc in absurd (omega arith)
-    by h a b false i m =
-        bind-then (regionStrips d t len scene time c z r) _ (some first) m
-        (λ p e₁ e₂.
-        let q : p ≡ first = cc in
-        let y = region-accepted d t len scene time c z r a b (not-empty r i .1) first (e₁ ∙ ap accepted q) in
-        record {
-          words = channel-room d (length t) scene time c z first (y .channel) h;
-          across = a;
-          size = omega (arith, y .small);
-          line = λ l. y .row;
-          held = λ l. y .reach;
-          within = y .within;
-        })
+module _ (d : Description) (t : List ℕ) (len : ℕ) (co : Coordinate) (s : Strips) where
+  pub ready-whole : planeFrom d t len co ≡ accepted s → Ready d t len s (wholePicture d)
+  ready-whole e =
+      plane-from-then d t len co s e
+      (λ u e₁ e₂.
+      let p = plane-accepted d t len co s e₂ in
+      let made : pictureBytes (d .dims .x) (d .dims .y) (d .kind) ≡ d .dims .y * rowBytes d = size-rows (d .dims .x) (d .dims .y) (sampleSize (d .kind)) in
+      record {
+        words = channel-room d (length t) co s (p .channel) (coordinate-channel d co u e₁);
+        across = omega arith;
+        size = omega (arith, p .small);
+        line = λ k l. omega (arith, mul-le-mul-right (rowBytes d) l, p .small);
+        held = λ k l. omega (arith, end-inside d (wholePicture d) (omega arith) (omega arith) l, p .summed);
+        within = p .within;
+      })
 
--- an empty rectangle's samples, or those of a rectangle whose picture's first strip is told
-abbrev partSamples : Description → List ℕ → List ℕ → Rect → Option ℕ → Samples
-partSamples d t f r none = record { rows = r .h; columns = r .w; bytes = [] }
-partSamples d t f r (some first) = samplesIn d t f r first
+  -- an empty rectangle has no samples, and is read from no strips
+  empty-bytes : (r : Rect) → isEmpty r ≡ true → pictureBytes (r .w) (r .h) (d .kind) ≡ 0
+  empty-bytes r e =
+      let b : ℕ = sampleSize (d .kind) in
+      empty-then r e (λ z. ap (λ (k : ℕ). k * r .h * b) z ∙ ap (λ (k : ℕ). k * b) (zero-mul (r .h)) ∙ zero-mul b)
+      (λ z. ap (λ (k : ℕ). r .w * k * b) z ∙ ap (λ (k : ℕ). k * b) (mul-zero (r .w)) ∙ zero-mul b)
 
-module _ (d : Description) (t f : List ℕ) (scene time c z : ℕ) (r : Rect) where
-  -- the checks, then the samples
-  region-as : region d t f scene time c z r ≡ bind (regionFirst d t (length f) scene time c z r) (λ o. accepted (partSamples d t f r o))
-  unfolding region regionFirst bind
-  region-as = by (coordinate d scene time c z) (rectangle (d .dims) r) (isEmpty r)
-    where
-      strips : (s : Result ℕ) → bind s (λ first. accepted (samplesIn d t f r first))
-          ≡ bind (bind s (λ first. accepted (some first))) (λ o. accepted (partSamples d t f r o))
-      strips (accepted first) = refl
-      strips (refused row) = refl
+  ready-empty : (r : Rect) → r .x + r .w ≤ d .dims .x → isEmpty r ≡ true → Ready d t len noStrips r
+  unfolding inside
+  ready-empty r a e =
+      let none : 0 < r .w → 0 < r .h → ⊥ = λ k l. empty-then r e (λ z. omega arith) (λ z. omega arith) in
+      record {
+        words = omega arith;
+        across = a;
+        size = omega (arith, empty-bytes r e);
+        line = λ k l. absurd (none k l);
+        held = λ k l. absurd (none k l);
+        within = refl;
+      }
 
-      by : (p q : Result (Unit {0})) (k : Bool) → bind p (λ _. bind q (λ _. filledRegion k d t f scene time c z r))
-          ≡ bind (bind p (λ _. bind q (λ _. filledFirst k d t (length f) scene time c z r))) (λ o. accepted (partSamples d t f r o))
-      by (refused row) q k = refl
-      by (accepted u) (refused row) k = refl
-      by (accepted u) (accepted v) true = refl
-      by (accepted u) (accepted v) false = strips (regionStrips d t (length f) scene time c z r)
-
-  pub region-unfit : (row : List ℕ) → regionFirst d t (length f) scene time c z r ≡ refused row → region d t f scene time c z r ≡ refused row
-  unfolding bind
-  region-unfit row e = region-as ∙ rw e
-
-  pub region-fit : (first : ℕ) → regionFirst d t (length f) scene time c z r ≡ accepted (some first)
-      → region d t f scene time c z r ≡ accepted (samplesIn d t f r first)
-  unfolding bind
-  region-fit first e = region-as ∙ rw e
-
-  pub region-empty : (lent : List ℕ) → regionFirst d t (length f) scene time c z r ≡ accepted none
-      → Pictured (region d t f scene time c z r) lent lent (accepted (r .h, r .w, 0))
-  unfolding bind
-  region-empty lent e =
-      pictured-as (region-as ∙ rw e) (pictured-read (record { rows = r .h; columns = r .w; bytes = [] }) lent 0 refl (omega arith))
+  pub ready-part : (r : Rect) → regionFrom d t len co r ≡ accepted s → Ready d t len s r
+  ready-part r e =
+      region-from-then d t len co r s e
+      (λ u v e₁ e₂ i q. subst (λ (k : Strips). Ready d t len k r) q (ready-empty r (rectangle-within (d .dims) r v e₂ .0) i))
+      (λ u v e₁ e₂ i h.
+      let w = rectangle-within (d .dims) r v e₂ in
+      let y = region-accepted d t len co r (w .0) (w .1) (not-empty r i .1) s h in
+      record {
+        words = channel-room d (length t) co s (y .channel) (coordinate-channel d co u e₁);
+        across = w .0;
+        size = omega (arith, y .small);
+        line = λ k l. y .row;
+        held = λ k l. y .reach;
+        within = y .within;
+      })

@@ -3,6 +3,7 @@
 use lsm_description::Description;
 use lsm_format::types::Endian;
 use lsm_format::types::PixelRect;
+use lsm_strips::StripRun;
 ghost use mathlib.Core.Path.{_≡_};
 ghost use mathlib.Core.Bool.{true};
 ghost use mathlib.Core.List.{reverse};
@@ -12,6 +13,7 @@ ghost use Rattle.lsm_format.specs.Picture.{total, stored, inside, span, bytes, 
 ghost use Rattle.lsm_format.specs.Code.{rectOf};
 ghost use Rattle.lsm_format.specs.Sizes.{pictureBytes};
 ghost use Rattle.lsm_description.specs.Code.{descriptionOf};
+ghost use Rattle.lsm_strips.specs.Parts.{stripsOf};
 ghost use Rattle.lsm_region.specs.Cursor.{Stands, RowsIn, SampleSize};
 ghost use Rattle.lsm_region.specs.Ready.{Ready};
 
@@ -203,19 +205,20 @@ pub(crate) fn fill(
     file: &[u8],
     table: &[usize],
     d: Description,
-    first: usize,
+    strips: StripRun,
     rect: PixelRect,
     out: &mut [u8],
 )
-    requires { ⌜ Ready (descriptionOf d) (now table) (length (now file)) first (rectOf rect) ⌝ }
+    requires { ⌜ Ready (descriptionOf d) (now table) (length (now file)) (stripsOf strips) (rectOf rect) ⌝ }
     requires { ⌜ (length (now out) ≡ pictureBytes (rect .w) (rect .h) (descriptionOf d .kind)) × (0 < length (now out)) ⌝ }
-    ensures { λ r. ⌜ now (out .exit) ≡ window (channelPicture (descriptionOf d) (now (table .entry)) (now (file .entry)) first) (rectOf rect) ⌝ }
+    ensures { λ r. ⌜ now (out .exit) ≡ window (channelPicture (descriptionOf d) (now (table .entry)) (now (file .entry)) (stripsOf strips)) (rectOf rect) ⌝ }
 {
     let dims = d.dims;
     let dtype = d.dtype;
     let endian = d.endian;
     let s = dtype.size_bytes();
-    let end = first + d.strips_per_channel;
+    let first = strips.first;
+    let end = first + strips.count;
     gather(
         file,
         table,

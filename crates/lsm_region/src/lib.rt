@@ -4,16 +4,19 @@ mod copier;
 use crate::copier::fill;
 use lsm_description::Description;
 use lsm_format::error::Refusal;
+use lsm_format::types::Coordinate;
 use lsm_format::types::PixelRect;
-use lsm_strips::First;
-use lsm_strips::Part;
-use lsm_strips::first_of_plane;
-use lsm_strips::first_of_region;
+use lsm_strips::Found;
+use lsm_strips::StripRun;
+use lsm_strips::plane_from;
+use lsm_strips::region_from;
 ghost use lib.ListN.{length};
 ghost use Rattle.lsm_format.specs.Answer.{accepted};
 ghost use Rattle.lsm_format.specs.Code.{rectOf};
+ghost use Rattle.lsm_format.specs.Rectangle.{coordinate};
 ghost use Rattle.lsm_format.specs.Picture as Rule;
 ghost use Rattle.lsm_description.specs.Code.{descriptionOf};
+ghost use Rattle.lsm_strips.specs.Parts.{stripsOf};
 ghost use Rattle.lsm_region.specs.Code.{answerOf, Pictured};
 ghost use Rattle.lsm_region.specs.Ready.{Ready};
 
@@ -34,12 +37,12 @@ fn deliver(
     buf: &[u8],
     d: Description,
     table: &[usize],
-    first: usize,
+    strips: StripRun,
     rect: PixelRect,
     out: &mut [u8],
 ) -> PictureAnswer
-    requires { ⌜ Ready (descriptionOf d) (now table) (length (now buf)) first (rectOf rect) ⌝ }
-    ensures { λ r. ⌜ Pictured (accepted (Rule.samplesIn (descriptionOf d) (now (table .entry)) (now (buf .entry)) (rectOf rect) first)) (now (out .entry)) (now (out .exit)) (answerOf r) ⌝ }
+    requires { ⌜ Ready (descriptionOf d) (now table) (length (now buf)) (stripsOf strips) (rectOf rect) ⌝ }
+    ensures { λ r. ⌜ Pictured (accepted (Rule.samplesIn (descriptionOf d) (now (table .entry)) (now (buf .entry)) (rectOf rect) (stripsOf strips))) (now (out .entry)) (now (out .exit)) (answerOf r) ⌝ }
 {
     let dtype = d.dtype;
     let size = rect.w * rect.h * dtype.size_bytes();
@@ -54,7 +57,7 @@ fn deliver(
     if size == 0 {
         return PictureAnswer::Read(picture);
     }
-    fill(buf, table, d, first, rect, &mut out[..size]);
+    fill(buf, table, d, strips, rect, &mut out[..size]);
     PictureAnswer::Read(picture)
 }
 
@@ -69,20 +72,21 @@ pub fn plane(
     z: usize,
     out: &mut [u8],
 ) -> PictureAnswer
-    ensures { λ r. ⌜ Pictured (Rule.plane (descriptionOf d) (now (table .entry)) (now (buf .entry)) scene t c z) (now (out .entry)) (now (out .exit)) (answerOf r) ⌝ }
+    ensures { λ r. ⌜ Pictured (Rule.plane (descriptionOf d) (now (table .entry)) (now (buf .entry)) (coordinate scene t c z)) (now (out .entry)) (now (out .exit)) (answerOf r) ⌝ }
 {
     let dims = d.dims;
-    match first_of_plane(d, table, buf.len(), scene, t, c, z) {
-        First::At(first) => {
+    let co = Coordinate { scene, t, c, z };
+    match plane_from(d, table, buf.len(), co) {
+        Found::Strips(strips) => {
             let whole = PixelRect {
                 x: 0,
                 y: 0,
                 w: dims.x,
                 h: dims.y,
             };
-            deliver(buf, d, table, first, whole, out)
+            deliver(buf, d, table, strips, whole, out)
         }
-        First::Refused(r) => PictureAnswer::Refused(r),
+        Found::Refused(r) => PictureAnswer::Refused(r),
     }
 }
 
@@ -99,15 +103,11 @@ pub fn region(
     rect: PixelRect,
     out: &mut [u8],
 ) -> PictureAnswer
-    ensures { λ r. ⌜ Pictured (Rule.region (descriptionOf d) (now (table .entry)) (now (buf .entry)) scene t c z (rectOf rect)) (now (out .entry)) (now (out .exit)) (answerOf r) ⌝ }
+    ensures { λ r. ⌜ Pictured (Rule.region (descriptionOf d) (now (table .entry)) (now (buf .entry)) (coordinate scene t c z) (rectOf rect)) (now (out .entry)) (now (out .exit)) (answerOf r) ⌝ }
 {
-    match first_of_region(d, table, buf.len(), scene, t, c, z, rect) {
-        Part::Empty => PictureAnswer::Read(Picture {
-            height: rect.h,
-            width: rect.w,
-            bytes: 0,
-        }),
-        Part::At(first) => deliver(buf, d, table, first, rect, out),
-        Part::Refused(r) => PictureAnswer::Refused(r),
+    let co = Coordinate { scene, t, c, z };
+    match region_from(d, table, buf.len(), co, rect) {
+        Found::Strips(strips) => deliver(buf, d, table, strips, rect, out),
+        Found::Refused(r) => PictureAnswer::Refused(r),
     }
 }

@@ -10,17 +10,21 @@ use mathlib.Core.List.{List}
 use lib.Dec.{eqb, ltb, leb}
 use lib.ListN.{length}
 use borrow.Author.Tests.{eq-eqb, ne-eqb, eqb-true, eqb-false, ltb-true, ltb-false, lt-ltb, le-ltb, le-leb, lt-leb, leb-true, leb-false}
-use Rattle.lsm_format.specs.Answer.{accepted, refused, bind, need, given, decode, sceneOutOfRange}
+use Rattle.lsm_format.specs.Answer.{accepted, refused, bind, given, decode, sceneOutOfRange}
 use Rattle.lsm_format.specs.Words.{word}
 use Rattle.lsm_format.specs.Sizes.{pictureSize}
-use Rattle.lsm_format.specs.Scenes.{pagesExpected, pageOf}
+use Rattle.lsm_format.specs.Rectangle.{Rect, Coordinate, coordinates}
+use Rattle.lsm_format.specs.Scenes.{pages, pagesExpected, pageOf}
 use Rattle.lsm_format.specs.Open.{Description}
-use Rattle.lsm_format.specs.Picture.{offsetOf, countOf, total, inside, wholeStrips, rowsIn, stripsPerPage, hasPage, firstStrip, channelStrips, coordinate, planeStrips, rowBytes, wholeChannel, wholeChannels, wholePages, wholeRows, windowEnd, windowStrips, regionStrips}
-use Rattle.lsm_format.specs.Rectangle.{Rect, coordinates}
+use Rattle.lsm_format.specs.Picture.{Strips, countOf, total, inside, inTurn, wholeStrips, rowsIn, stripsPerPage, hasPage, stripsOn, channelStrips, sceneThere, coordinateThere, planeStrips, rowBytes, wholeChannel, wholeChannels, wholePage, wholePages, wholeRows, windowEnd, rowStrips, windowStrips, regionStrips}
 use Rattle.lsm_format.proofs.Words.{word-some, word-none}
-use Rattle.lsm_format.proofs.Picture.{total-step, inside-none, inside-past, inside-next, page-there, page-missing, strips-oversized, strips-judged, given-some}
+use Rattle.lsm_format.proofs.Picture.{total-step, inside-none, page-there, page-missing, strips-oversized, strips-judged, given-some}
 use Rattle.lsm_format.proofs.Region.{below}
-use Rattle.lsm_strips.specs.Parts.{made, wholeRowsOf, pageIn, pastTest, wholePage, rowStrips, sceneThere}
+use Rattle.lsm_strips.specs.Parts.{wholeRowsOf, pageIn, pastTest}
+
+given-none : (r : List ℕ) (o : Option ℕ) (row : List ℕ) → given r o ≡ refused row → o ≡ none
+given-none r none row e = refl
+given-none r (some a) row e = let z : _≡_ {A = ℕ} 0 1 = cc in absurd (omega arith)
 
 -- ---- tests of equality
 
@@ -48,30 +52,6 @@ turned a b = same-test a b b a sym sym
 
 counted-down : (a c size : ℕ) → c ≤ size → eqb (c + a) size ≡ eqb a (size - c)
 counted-down a c size h = same-test (c + a) size a (size - c) (λ e. omega arith) (λ e. omega arith)
-
--- ---- the strips' bytes
-
-pub made-none : (t : List ℕ) (len i n size : ℕ) → n ≤ 0 → eqb size 0 ≡ made t len i n size
-unfolding made inside total
-made-none t len i zero size h = turned size 0
-made-none t len i (suc n) size h = absurd (not-suc-le-zero h)
-
-module _ (t : List ℕ) (len i n size : ℕ) (any : 0 < n) where
-  pub made-past : len < offsetOf t i + countOf t i → false ≡ made t len i n size
-  unfolding made
-  made-past h = sym (ap (λ (b : Bool). b && eqb (total t i n) size) (inside-past t len i n any h))
-
-  pub made-over : size < countOf t i → false ≡ made t len i n size
-  unfolding made
-  made-over h =
-      sym (ap (λ (b : Bool). inside t len i n && b) (ne-eqb (total t i n) size (λ e. omega (arith, total-step t i n any)))
-      ∙ and-false (inside t len i n))
-
-  pub made-next : offsetOf t i + countOf t i ≤ len → countOf t i ≤ size → made t len i n size ≡ made t len (i + 1) (n - 1) (size - countOf t i)
-  unfolding made
-  made-next h u =
-      ap₂ (λ (a b : Bool). a && b) (inside-next t len i n any h)
-      (ap (λ (k : ℕ). eqb k size) (total-step t i n any) ∙ counted-down (total t (i + 1) (n - 1)) (countOf t i) size u)
 
 -- ---- the strips' rows
 
@@ -147,8 +127,8 @@ module _ (d : Description) (words page strips : ℕ) (w : word (stripsPerPage d)
   pub page-is : pageIn strips words page ≡ hasPage d words page
   page-is = rw (word-some _ _ w .0)
 
-  pub first-is : (c : ℕ) → page * strips + c * d .stripsPerChannel ≡ firstStrip d page c
-  first-is c = rw (word-some _ _ w .0)
+  pub strips-are : (c : ℕ) → record { first = page * strips + c * d .stripsPerChannel; count = d .stripsPerChannel } ≡ stripsOn d page c
+  strips-are c = rw (word-some _ _ w .0)
 
   pub page-room : pageIn strips words page ≡ true → 2 * (page * strips + strips) ≤ words
   page-room h = rw (word-some _ _ w .0) (page-there d words page (sym page-is ∙ h) .1)
@@ -160,27 +140,17 @@ module _ (d : Description) (words page strips : ℕ) (w : word (stripsPerPage d)
 pub page-over : (d : Description) (words page : ℕ) → words < 2 ^ 64 → word (stripsPerPage d) ≡ none → hasPage d words page ≡ false
 page-over d words page h w = page-missing d words page (omega (arith, word-none _ w))
 
--- ---- plane's strips by their test
+-- ---- plane's strips by what is found in turn
 
-judged-by : (a b : Bool) (first : ℕ) (k : Bool) → (a && b) ≡ k → bind (need decode a) (λ _. bind (need decode b) (λ _. accepted first)) ≡ bind (need decode k) (λ _. accepted first)
-unfolding bind
-judged-by true true first k e = rw (sym e)
-judged-by true false first k e = rw (sym e)
-judged-by false b first k e = rw (sym e)
-
-module _ (d : Description) (t : List ℕ) (len scene time c z size first : ℕ) (e : pictureSize (d .dims .x) (d .dims .y) (d .kind) ≡ accepted size)
-    (h : channelStrips d (length t) scene time c z ≡ accepted first) where
-  judged : (k : Bool) → made t len first (d .stripsPerChannel) size ≡ k → planeStrips d t len scene time c z ≡ bind (need decode k) (λ _. accepted first)
-  unfolding made
-  judged k m = strips-judged d t len scene time c z size first e h ∙ judged-by (inside t len first (d .stripsPerChannel)) (eqb (total t first (d .stripsPerChannel)) size) first k m
-
-  pub strips-made : made t len first (d .stripsPerChannel) size ≡ true → accepted first ≡ planeStrips d t len scene time c z
+module _ (d : Description) (t : List ℕ) (len : ℕ) (co : Coordinate) (size : ℕ) (s : Strips) (e : pictureSize (d .dims .x) (d .dims .y) (d .kind) ≡ accepted size)
+    (h : channelStrips d (length t) co ≡ accepted s) where
+  pub strips-fit : (u : Unit {0}) → inTurn decode decode t len (s .first) (s .count) size ≡ accepted u → accepted s ≡ planeStrips d t len co
   unfolding bind
-  strips-made m = sym (judged true m)
+  strips-fit u m = sym (strips-judged d t len co size s e h ∙ rw m)
 
-  pub strips-unmade : made t len first (d .stripsPerChannel) size ≡ false → refused decode ≡ planeStrips d t len scene time c z
+  pub strips-unfit : (row : List ℕ) → inTurn decode decode t len (s .first) (s .count) size ≡ refused row → refused row ≡ planeStrips d t len co
   unfolding bind
-  strips-unmade m = sym (judged false m)
+  strips-unfit row m = sym (strips-judged d t len co size s e h ∙ rw m)
 
 -- ---- the coordinate
 
@@ -193,14 +163,14 @@ module _ (d : Description) (scene : ℕ) where
   unfolding sceneThere
   scene-inside h = rw (lt-ltb scene (d .layout .scenes) h)
 
-  module _ (t c z : ℕ) where
-    pub place-missing : (row : List ℕ) → sceneThere d scene ≡ refused row → refused row ≡ coordinate d scene t c z
-    unfolding coordinate sceneThere bind
-    place-missing row e = rw e
+module _ (d : Description) (co : Coordinate) where
+  pub place-missing : (row : List ℕ) → sceneThere d (co .scene) ≡ refused row → refused row ≡ coordinateThere d co
+  unfolding coordinateThere bind
+  place-missing row e = rw e
 
-    pub place-there : (u : Unit {0}) → sceneThere d scene ≡ accepted u → coordinates (d .dims) scene t c z ≡ coordinate d scene t c z
-    unfolding coordinate sceneThere bind
-    place-there u e = rw e
+  pub place-there : (u : Unit {0}) → sceneThere d (co .scene) ≡ accepted u → coordinates (d .dims) co ≡ coordinateThere d co
+  unfolding coordinateThere bind
+  place-there u e = rw e
 
 -- ---- whole rows
 
@@ -216,17 +186,17 @@ module _ (all one : ℕ → Bool) (step : (m : ℕ) → all (suc m) ≡ (all m &
       step m ∙ below k m l (λ u. ap (λ (b : Bool). b && one m) (one-fails k m u h))
       (λ e. ap (λ (b : Bool). all m && b) (ap one (sym e) ∙ h) ∙ and-false (all m))
 
-channels-all : (d : Description) (t : List ℕ) (page m : ℕ) → ((k : ℕ) → k < m → wholeChannel d t (firstStrip d page k) ≡ true) → wholeChannels d t page m ≡ true
+channels-all : (d : Description) (t : List ℕ) (page m : ℕ) → ((k : ℕ) → k < m → wholeChannel d t (stripsOn d page k) ≡ true) → wholeChannels d t page m ≡ true
 unfolding wholeChannels
-channels-all d t page m h = all-hold (wholeChannels d t page) (λ k. wholeChannel d t (firstStrip d page k)) (λ k. refl) refl m h
+channels-all d t page m h = all-hold (wholeChannels d t page) (λ k. wholeChannel d t (stripsOn d page k)) (λ k. refl) refl m h
 
-channels-not : (d : Description) (t : List ℕ) (page k m : ℕ) → k < m → wholeChannel d t (firstStrip d page k) ≡ false → wholeChannels d t page m ≡ false
+channels-not : (d : Description) (t : List ℕ) (page k m : ℕ) → k < m → wholeChannel d t (stripsOn d page k) ≡ false → wholeChannels d t page m ≡ false
 unfolding wholeChannels
-channels-not d t page k m l h = one-fails (wholeChannels d t page) (λ k. wholeChannel d t (firstStrip d page k)) (λ k. refl) k m l h
+channels-not d t page k m l h = one-fails (wholeChannels d t page) (λ k. wholeChannel d t (stripsOn d page k)) (λ k. refl) k m l h
 
 -- the strips of channel k of a page that starts at strip `start`
 module _ (d : Description) (t : List ℕ) (page start row : ℕ) (s : start ≡ page * stripsPerPage d) (w : row ≡ rowBytes d) where
-  channel-is : (k : ℕ) → wholeRowsOf row t (start + k * d .stripsPerChannel) (d .stripsPerChannel) (d .dims .y) ≡ wholeChannel d t (firstStrip d page k)
+  channel-is : (k : ℕ) → wholeRowsOf row t (start + k * d .stripsPerChannel) (d .stripsPerChannel) (d .dims .y) ≡ wholeChannel d t (stripsOn d page k)
   unfolding wholeRowsOf wholeChannel
   channel-is k = rw (s, w)
 
@@ -267,7 +237,7 @@ module _ (d : Description) (t : List ℕ) where
   pub whole-wide : word (rowBytes d) ≡ none → false ≡ wholeRows d t
   unfolding wholeRows
   whole-wide e =
-      sym (ap (λ (b : Bool). not (eqb (rowBytes d) 0) && (b && (ltb (d .layout .scenes * d .layout .depth) (2 ^ 64) && wholePages d t (d .layout .scenes * d .layout .depth))))
+      sym (ap (λ (b : Bool). not (eqb (rowBytes d) 0) && (b && (ltb (pages (d .layout)) (2 ^ 64) && wholePages d t (pages (d .layout)))))
       (le-ltb (rowBytes d) (2 ^ 64) (word-none _ e))
       ∙ and-false (not (eqb (rowBytes d) 0)))
 
@@ -276,17 +246,19 @@ module _ (d : Description) (t : List ℕ) where
     unfolding wholeRows
     whole-empty e = rw (eq-eqb (rowBytes d) 0 (sym (word-some _ _ w .0) ∙ e))
 
-    row-there : (row ≡ 0 → ⊥) → wholeRows d t ≡ (ltb (d .layout .scenes * d .layout .depth) (2 ^ 64) && wholePages d t (d .layout .scenes * d .layout .depth))
+    row-there : (row ≡ 0 → ⊥) → wholeRows d t ≡ (ltb (pages (d .layout)) (2 ^ 64) && wholePages d t (pages (d .layout)))
     unfolding wholeRows
     row-there h = rw (ne-eqb (rowBytes d) 0 (λ z. h (word-some _ _ w .0 ∙ z)), lt-ltb (rowBytes d) (2 ^ 64) (word-some _ _ w .1))
 
-    pub whole-many : (row ≡ 0 → ⊥) → word (d .layout .scenes * d .layout .depth) ≡ none → false ≡ wholeRows d t
-    whole-many h e = sym (row-there h ∙ rw (le-ltb (d .layout .scenes * d .layout .depth) (2 ^ 64) (word-none _ e)))
+    pub whole-many : (row ≡ 0 → ⊥) → (refusal : List ℕ) → pagesExpected (d .layout) ≡ refused refusal → false ≡ wholeRows d t
+    unfolding pagesExpected
+    whole-many h refusal e = sym (row-there h ∙ rw (le-ltb (pages (d .layout)) (2 ^ 64) (word-none _ (given-none decode (word (pages (d .layout))) refusal e))))
 
-    pub whole-by : (row ≡ 0 → ⊥) → (pages : ℕ) → word (d .layout .scenes * d .layout .depth) ≡ some pages → wholePages d t pages ≡ wholeRows d t
-    whole-by h pages e =
-        let p = word-some _ _ e in
-        sym (row-there h ∙ rw (lt-ltb (d .layout .scenes * d .layout .depth) (2 ^ 64) (p .1), p .0))
+    pub whole-by : (row ≡ 0 → ⊥) → (n : ℕ) → pagesExpected (d .layout) ≡ accepted n → wholePages d t n ≡ wholeRows d t
+    unfolding pagesExpected
+    whole-by h n e =
+        let p = word-some _ _ (given-some decode (word (pages (d .layout))) n e) in
+        sym (row-there h ∙ rw (lt-ltb (pages (d .layout)) (2 ^ 64) (p .1), p .0))
 
 pub page-lost : (d : Description) (t : List ℕ) (page : ℕ) → length t < 2 ^ 64 → word (stripsPerPage d) ≡ none → false ≡ wholePage d t page
 page-lost d t page h w = sym (ap (λ (b : Bool). b && wholeChannels d t page (d .dims .c)) (page-over d (length t) page h w))
@@ -296,29 +268,25 @@ pages-all d t n m l u h = let e : n ≡ m = omega arith in sym (rw e at h)
 
 -- ---- the page asked for
 
-module _ (d : Description) (scene z : ℕ) where
-  pub past-nowhere : pageOf (d .layout) scene z ≡ none → false ≡ pastTest d scene z
+module _ (d : Description) (co : Coordinate) where
+  pub past-nowhere : pageOf (d .layout) co ≡ none → false ≡ pastTest d co
   unfolding pastTest
   past-nowhere e = rw e
 
-  module _ (page : ℕ) (e : pageOf (d .layout) scene z ≡ some page) where
-    pub past-by : (pages : ℕ) → pagesExpected (d .layout) ≡ accepted pages → leb pages page ≡ pastTest d scene z
+  module _ (page : ℕ) (e : pageOf (d .layout) co ≡ some page) where
+    pub past-by : (n : ℕ) → pagesExpected (d .layout) ≡ accepted n → leb n page ≡ pastTest d co
     unfolding pastTest pagesExpected
-    past-by pages w = rw e (ap (λ (k : ℕ). leb k page) (word-some _ _ (given-some decode (word (d .layout .scenes * d .layout .depth)) pages w) .0))
+    past-by n w = rw e (ap (λ (k : ℕ). leb k page) (word-some _ _ (given-some decode (word (pages (d .layout))) n w) .0))
 
     -- pages that overflow are more than any number
-    pub past-over : (row : List ℕ) → pagesExpected (d .layout) ≡ refused row → page < 2 ^ 64 → false ≡ pastTest d scene z
+    pub past-over : (row : List ℕ) → pagesExpected (d .layout) ≡ refused row → page < 2 ^ 64 → false ≡ pastTest d co
     unfolding pastTest pagesExpected
-    past-over row w h = rw e (sym (lt-leb (d .layout .scenes * d .layout .depth) page (omega (arith, word-none _ (given-none decode (word (d .layout .scenes * d .layout .depth)) row w)))))
-      where
-        given-none : (r : List ℕ) (o : Option ℕ) (row : List ℕ) → given r o ≡ refused row → o ≡ none
-        given-none r none row e = refl
-        given-none r (some a) row e = let z : _≡_ {A = ℕ} 0 1 = cc in absurd (omega arith)
+    past-over row w h = rw e (sym (lt-leb (pages (d .layout)) page (omega (arith, word-none _ (given-none decode (word (pages (d .layout))) row w)))))
 
   -- one that isn't past the test is one of its pages
-  pub past-not : pastTest d scene z ≡ false → (page : ℕ) → pageOf (d .layout) scene z ≡ some page → page < d .layout .scenes * d .layout .depth
+  pub past-not : pastTest d co ≡ false → (page : ℕ) → pageOf (d .layout) co ≡ some page → page < pages (d .layout)
   unfolding pastTest
-  past-not h page e = leb-false (d .layout .scenes * d .layout .depth) page (rw e at h)
+  past-not h page e = leb-false (pages (d .layout)) page (rw e at h)
 
 -- ---- how far the strips reach
 
@@ -381,44 +349,44 @@ reach-end t i (suc n) row ahead rest h l = absurd (not-suc-le-zero h)
 
 -- ---- region's strips
 
-module _ (d : Description) (t : List ℕ) (len scene time c z : ℕ) (r : Rect) where
+module _ (d : Description) (t : List ℕ) (len : ℕ) (co : Coordinate) (r : Rect) where
   -- where all strips hold whole rows: no such page; strips outside the file; strips that end before the rectangle; there
-  pub rows-nowhere : (row : List ℕ) → channelStrips d (length t) scene time c z ≡ refused row → refused row ≡ rowStrips d t len scene time c z r
+  pub rows-nowhere : (row : List ℕ) → channelStrips d (length t) co ≡ refused row → refused row ≡ rowStrips d t len co r
   unfolding rowStrips bind
   rows-nowhere row h = rw h
 
-  module _ (first : ℕ) (h : channelStrips d (length t) scene time c z ≡ accepted first) where
-    pub rows-outside : inside t len first (d .stripsPerChannel) ≡ false → refused decode ≡ rowStrips d t len scene time c z r
+  module _ (s : Strips) (h : channelStrips d (length t) co ≡ accepted s) where
+    pub rows-outside : inside t len (s .first) (s .count) ≡ false → refused decode ≡ rowStrips d t len co r
     unfolding rowStrips bind
     rows-outside i = rw h (rw i)
 
-    pub rows-short : inside t len first (d .stripsPerChannel) ≡ true → leb (windowEnd d r) (total t first (d .stripsPerChannel)) ≡ false
-        → refused decode ≡ rowStrips d t len scene time c z r
+    pub rows-short : inside t len (s .first) (s .count) ≡ true → leb (windowEnd d r) (total t (s .first) (s .count)) ≡ false
+        → refused decode ≡ rowStrips d t len co r
     unfolding rowStrips bind
     rows-short i e = rw h (rw (i, e))
 
-    pub rows-at : inside t len first (d .stripsPerChannel) ≡ true → leb (windowEnd d r) (total t first (d .stripsPerChannel)) ≡ true
-        → accepted first ≡ rowStrips d t len scene time c z r
+    pub rows-at : inside t len (s .first) (s .count) ≡ true → leb (windowEnd d r) (total t (s .first) (s .count)) ≡ true
+        → accepted s ≡ rowStrips d t len co r
     unfolding rowStrips bind
     rows-at i e = rw h (rw (i, e))
 
   -- the rectangle's own size first
-  pub window-over : (row : List ℕ) → pictureSize (r .w) (r .h) (d .kind) ≡ refused row → refused row ≡ windowStrips d t len scene time c z r
+  pub window-over : (row : List ℕ) → pictureSize (r .w) (r .h) (d .kind) ≡ refused row → refused row ≡ windowStrips d t len co r
   unfolding windowStrips bind
   window-over row e = rw e
 
-  pub window-by-rows : (n : ℕ) → pictureSize (r .w) (r .h) (d .kind) ≡ accepted n → rowStrips d t len scene time c z r ≡ windowStrips d t len scene time c z r
+  pub window-by-rows : (n : ℕ) → pictureSize (r .w) (r .h) (d .kind) ≡ accepted n → rowStrips d t len co r ≡ windowStrips d t len co r
   unfolding windowStrips rowStrips bind
   window-by-rows n e = rw e
 
-  pub region-whole : wholeRows d t ≡ true → windowStrips d t len scene time c z r ≡ regionStrips d t len scene time c z r
+  pub region-whole : wholeRows d t ≡ true → windowStrips d t len co r ≡ regionStrips d t len co r
   unfolding regionStrips
   region-whole e = rw e
 
-  pub region-broken : wholeRows d t ≡ false → planeStrips d t len scene time c z ≡ regionStrips d t len scene time c z r
+  pub region-broken : wholeRows d t ≡ false → planeStrips d t len co ≡ regionStrips d t len co r
   unfolding regionStrips
   region-broken e = rw e
 
   pub region-oversized : (row : List ℕ) → pictureSize (d .dims .x) (d .dims .y) (d .kind) ≡ refused row → wholeRows d t ≡ false
-      → refused row ≡ regionStrips d t len scene time c z r
-  region-oversized row o e = strips-oversized d t len scene time c z row o ∙ region-broken e
+      → refused row ≡ regionStrips d t len co r
+  region-oversized row o e = strips-oversized d t len co row o ∙ region-broken e

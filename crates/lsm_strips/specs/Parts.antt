@@ -3,22 +3,17 @@ use Prim.Native.Nat.{ℕ, _+_, _*_, _^_, _≤_, _<_}
 use mathlib.Core.Bool.{Bool, true, false, not, _&&_}
 use mathlib.Core.List.{List}
 use mathlib.Core.Option.{Option, none, some}
-use lib.Dec.{eqb, ltb, leb}
-use lib.ListN.{length}
-use Rattle.lsm_format.specs.Answer.{Result, accepted, refused, bind, need, decode, sceneOutOfRange}
+use lib.Dec.{eqb, leb}
+use Rattle.lsm_format.specs.Answer.{Result, accepted, refused}
 use Rattle.lsm_format.specs.Code.{rowOf}
 use Rattle.lsm_format.specs.Open.{Description}
-use Rattle.lsm_format.specs.Rectangle.{Rect, isEmpty, rectangle}
-use Rattle.lsm_format.specs.Scenes.{pageOf}
-use Rattle.lsm_format.specs.Picture.{total, inside, wholeStrips, rowsIn, hasPage, coordinate, planeStrips, channelStrips, wholeChannels, windowEnd, regionStrips}
-use Rattle.lsm_strips.specs.declared.First.{First}
-use Rattle.lsm_strips.specs.declared.First.the-variants.{At, Refused}
-use Rattle.lsm_strips.specs.declared.Part.{Part}
-use Rattle.lsm_strips.specs.declared.Part.the-variants.{Empty, At as PartAt, Refused as RefusedPart}
-
--- The strips lie in the file, and together have so many bytes.
-unfoldable pub made : List ℕ → ℕ → ℕ → ℕ → ℕ → Bool
-made table len i n size = inside table len i n && eqb (total table i n) size
+use Rattle.lsm_format.specs.Rectangle.{Rect, Coordinate}
+use Rattle.lsm_format.specs.Scenes.{pages, pageOf}
+use Rattle.lsm_format.specs.Picture as Rule
+use Rattle.lsm_format.specs.Picture.{wholeStrips, rowsIn}
+use Rattle.lsm_strips.specs.declared.StripRun.{StripRun}
+use Rattle.lsm_strips.specs.declared.Found.{Found}
+use Rattle.lsm_strips.specs.declared.Found.the-variants.{Strips as At, Refused}
 
 -- The strips hold whole rows, and together so many of them.
 unfoldable pub wholeRowsOf : ℕ → List ℕ → ℕ → ℕ → ℕ → Bool
@@ -28,22 +23,21 @@ wholeRowsOf row table i n height = wholeStrips row table i n && eqb (rowsIn row 
 abbrev pub pageIn : ℕ → ℕ → ℕ → Bool
 pageIn strips words page = not (eqb strips 0) && leb (2 * ((page + 1) * strips)) words
 
--- The table has the page, and its channels hold whole rows.
-abbrev pub wholePage : Description → List ℕ → ℕ → Bool
-wholePage d table page = hasPage d (length table) page && wholeChannels d table page (d .dims .c)
+-- The strips that a picture is read from.
+abbrev pub stripsOf : StripRun → Rule.Strips
+stripsOf s = record { first = s .first; count = s .count }
 
--- The first strip of a picture.
-abbrev pub firstOf : First → Result ℕ
-firstOf (At first) = accepted first
-firstOf (Refused r) = refused (rowOf r)
+abbrev pub foundOf : Found → Result Rule.Strips
+foundOf (At s) = accepted (stripsOf s)
+foundOf (Refused r) = refused (rowOf r)
 
 -- The page asked for is there by its number, and past those of the whole-row test.
 abbrev pub pastBy : Description → Option ℕ → Bool
 pastBy d none = false
-pastBy d (some page) = leb (d .layout .scenes * d .layout .depth) page
+pastBy d (some page) = leb (pages (d .layout)) page
 
-unfoldable pub pastTest : Description → ℕ → ℕ → Bool
-pastTest d scene z = pastBy d (pageOf (d .layout) scene z)
+unfoldable pub pastTest : Description → Coordinate → Bool
+pastTest d co = pastBy d (pageOf (d .layout) co)
 
 -- A rectangle that has rows, no end of which overflows or passes the picture.
 pub record Lying (d : Description) (r : Rect) : Type 0 where
@@ -52,33 +46,3 @@ pub record Lying (d : Description) (r : Rect) : Type 0 where
   pub bottom : r .y + r .h < 2 ^ 64
   pub down : r .y + r .h ≤ d .dims .y
   pub rows : 0 < r .h
-
--- What is asked of a rectangle's strips after its size, where all strips hold whole rows.
-unfoldable pub rowStrips : Description → List ℕ → ℕ → ℕ → ℕ → ℕ → ℕ → Rect → Result ℕ
-rowStrips d table len scene t c z r =
-    bind (channelStrips d (length table) scene t c z) (λ first.
-    bind (need decode (inside table len first (d .stripsPerChannel))) (λ _.
-    bind (need decode (leb (windowEnd d r) (total table first (d .stripsPerChannel)))) (λ _. accepted first)))
-
--- ---- what plane and region ask before the sample buffer
-
-unfoldable pub sceneThere : Description → ℕ → Result (Unit {0})
-sceneThere d scene = need (sceneOutOfRange scene (d .layout .scenes)) (ltb scene (d .layout .scenes))
-
--- The first strip of the picture that a rectangle is read from; none where the rectangle is empty.
-abbrev pub partOf : Part → Result (Option ℕ)
-partOf Empty = accepted none
-partOf (PartAt first) = accepted (some first)
-partOf (RefusedPart r) = refused (rowOf r)
-
-unfoldable pub planeFirst : Description → List ℕ → ℕ → ℕ → ℕ → ℕ → ℕ → Result ℕ
-planeFirst d table len scene t c z = bind (coordinate d scene t c z) (λ _. planeStrips d table len scene t c z)
-
-abbrev pub filledFirst : Bool → Description → List ℕ → ℕ → ℕ → ℕ → ℕ → ℕ → Rect → Result (Option ℕ)
-filledFirst true d table len scene t c z r = accepted none
-filledFirst false d table len scene t c z r = bind (regionStrips d table len scene t c z r) (λ first. accepted (some first))
-
-unfoldable pub regionFirst : Description → List ℕ → ℕ → ℕ → ℕ → ℕ → ℕ → Rect → Result (Option ℕ)
-regionFirst d table len scene t c z r =
-    bind (coordinate d scene t c z) (λ _.
-    bind (rectangle (d .dims) r) (λ _. filledFirst (isEmpty r) d table len scene t c z r))

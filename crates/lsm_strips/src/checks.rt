@@ -1,14 +1,15 @@
 // The checks of plane and region after the coordinate's and the rectangle's, in their order.
-use crate::First;
+use crate::Found;
 use crate::pages::channel_strips;
 use crate::pages::past_test;
 use crate::pages::whole_rows;
+use crate::strips::strips_in_turn;
 use crate::strips::strips_inside;
-use crate::strips::strips_make;
 use crate::strips::strips_reach;
 use lsm_description::Description;
 use lsm_format::error::Check;
 use lsm_format::error::Refusal;
+use lsm_format::types::Coordinate;
 use lsm_format::types::Dims5;
 use lsm_format::types::PixelRect;
 use lsm_format::types::PlaneBytes;
@@ -17,11 +18,11 @@ ghost use mathlib.Core.Path.{_≡_};
 ghost use mathlib.Core.Bool.{true};
 ghost use Prim.Native.Nat.{_<_};
 ghost use Rattle.lsm_format.specs.Answer.{accepted};
-ghost use Rattle.lsm_format.specs.Code.{rectOf, checkOf};
+ghost use Rattle.lsm_format.specs.Code.{rectOf, checkOf, coordinateOf};
 ghost use Rattle.lsm_format.specs.Sizes.{pictureSize};
-ghost use Rattle.lsm_format.specs.Picture.{coordinate, planeStrips, windowStrips, regionStrips, wholeRows};
+ghost use Rattle.lsm_format.specs.Picture.{sceneThere, coordinateThere, planeStrips, rowStrips, windowStrips, regionStrips, wholeRows};
 ghost use Rattle.lsm_description.specs.Code.{descriptionOf};
-ghost use Rattle.lsm_strips.specs.Parts.{firstOf, sceneThere, Lying, rowStrips};
+ghost use Rattle.lsm_strips.specs.Parts.{foundOf, Lying};
 
 // Whether the file has the scene.
 pub(crate) fn checked_scene(d: Description, scene: usize) -> Check
@@ -38,99 +39,69 @@ pub(crate) fn checked_scene(d: Description, scene: usize) -> Check
 }
 
 // The scene, then t, c and z.
-pub(crate) fn checked_place(d: Description, scene: usize, t: usize, c: usize, z: usize) -> Check
-    ensures { λ r. ⌜ checkOf r ≡ coordinate (descriptionOf d) scene t c z ⌝ }
+pub(crate) fn checked_place(d: Description, co: Coordinate) -> Check
+    ensures { λ r. ⌜ checkOf r ≡ coordinateThere (descriptionOf d) (coordinateOf co) ⌝ }
 {
     let dims = d.dims;
-    match checked_scene(d, scene) {
-        Check::Accepted => checked_coordinates(dims, scene, t, c, z),
+    match checked_scene(d, co.scene) {
+        Check::Accepted => checked_coordinates(dims, co.scene, co.t, co.c, co.z),
         Check::Refused(missing) => Check::Refused(missing),
     }
 }
 
 // The strips of a picture whose size is known and not above the limit.
-fn sized_strips(
-    d: Description,
-    table: &[usize],
-    len: usize,
-    scene: usize,
-    t: usize,
-    c: usize,
-    z: usize,
-    size: usize,
-) -> First
-    requires { ⌜ c < descriptionOf d .dims .c ⌝ }
+fn sized_strips(d: Description, table: &[usize], len: usize, co: Coordinate, size: usize) -> Found
+    requires { ⌜ co .c < descriptionOf d .dims .c ⌝ }
     requires { ⌜ pictureSize (descriptionOf d .dims .x) (descriptionOf d .dims .y) (descriptionOf d .kind) ≡ accepted size ⌝ }
-    ensures { λ r. ⌜ firstOf r ≡ planeStrips (descriptionOf d) (now (table .entry)) len scene t c z ⌝ }
+    ensures { λ r. ⌜ foundOf r ≡ planeStrips (descriptionOf d) (now (table .entry)) len (coordinateOf co) ⌝ }
 {
-    match channel_strips(d, table.len(), scene, t, c, z) {
-        First::At(first) => {
-            if strips_make(table, first, d.strips_per_channel, len, size) {
-                First::At(first)
-            } else {
-                First::Refused(Refusal::Decode)
-            }
-        }
-        First::Refused(r) => First::Refused(r),
+    match channel_strips(d, table.len(), co) {
+        Found::Strips(s) => match strips_in_turn(table, s.first, s.count, len, size) {
+            Check::Accepted => Found::Strips(s),
+            Check::Refused(r) => Found::Refused(r),
+        },
+        Found::Refused(r) => Found::Refused(r),
     }
 }
 
 // Plane's checks after the coordinate: size, page, strips.
-pub(crate) fn plane_strips(
-    d: Description,
-    table: &[usize],
-    len: usize,
-    scene: usize,
-    t: usize,
-    c: usize,
-    z: usize,
-) -> First
-    requires { ⌜ c < descriptionOf d .dims .c ⌝ }
-    ensures { λ r. ⌜ firstOf r ≡ planeStrips (descriptionOf d) (now (table .entry)) len scene t c z ⌝ }
+pub(crate) fn plane_strips(d: Description, table: &[usize], len: usize, co: Coordinate) -> Found
+    requires { ⌜ co .c < descriptionOf d .dims .c ⌝ }
+    ensures { λ r. ⌜ foundOf r ≡ planeStrips (descriptionOf d) (now (table .entry)) len (coordinateOf co) ⌝ }
 {
     let dims = d.dims;
     let dtype = d.dtype;
     match dims.checked_plane_bytes(dtype) {
-        PlaneBytes::Bytes(size) => sized_strips(d, table, len, scene, t, c, z, size),
-        PlaneBytes::Refused(oversized) => First::Refused(oversized),
+        PlaneBytes::Bytes(size) => sized_strips(d, table, len, co, size),
+        PlaneBytes::Refused(oversized) => Found::Refused(oversized),
     }
 }
 
 // The strips of a rectangle where all pages' strips hold whole rows: they lie in the file, and the rectangle's last sample in them. A page
 // past those of the whole-row test can be asked for, and may lack it; what the joined strips hold need not fit 64 bits.
-fn row_strips(
-    d: Description,
-    table: &[usize],
-    len: usize,
-    scene: usize,
-    t: usize,
-    c: usize,
-    z: usize,
-    rect: PixelRect,
-) -> First
-    requires { ⌜ c < descriptionOf d .dims .c ⌝ }
+fn row_strips(d: Description, table: &[usize], len: usize, co: Coordinate, rect: PixelRect) -> Found
+    requires { ⌜ co .c < descriptionOf d .dims .c ⌝ }
     requires { ⌜ Lying (descriptionOf d) (rectOf rect) ⌝ }
     requires { ⌜ wholeRows (descriptionOf d) (now table) ≡ true ⌝ }
-    ensures { λ r. ⌜ firstOf r ≡ rowStrips (descriptionOf d) (now (table .entry)) len scene t c z (rectOf rect) ⌝ }
+    ensures { λ r. ⌜ foundOf r ≡ rowStrips (descriptionOf d) (now (table .entry)) len (coordinateOf co) (rectOf rect) ⌝ }
 {
     let dims = d.dims;
     let dtype = d.dtype;
-    let n = d.strips_per_channel;
-    match channel_strips(d, table.len(), scene, t, c, z) {
-        First::At(first) => {
-            let s = dtype.size_bytes();
+    match channel_strips(d, table.len(), co) {
+        Found::Strips(s) => {
+            let size = dtype.size_bytes();
             let last = rect.y + rect.h - 1;
-            let part = (rect.x + rect.w) * s;
-            if !strips_inside(table, first, n, len) {
-                return First::Refused(Refusal::Decode);
+            let part = (rect.x + rect.w) * size;
+            if !strips_inside(table, s.first, s.count, len) {
+                return Found::Refused(Refusal::Decode);
             }
-            if strips_reach(table, first, n, dims.x * s, last, part) {
-                First::At(first)
+            if strips_reach(table, s.first, s.count, dims.x * size, last, part) {
+                Found::Strips(s)
             } else {
-                First::Refused(Refusal::Decode)
+                Found::Refused(Refusal::Decode)
             }
         }
-        First::Refused(r) => First::Refused(r),
+        Found::Refused(r) => Found::Refused(r),
     }
 }
 
@@ -139,16 +110,13 @@ fn window_strips(
     d: Description,
     table: &[usize],
     len: usize,
-    scene: usize,
-    t: usize,
-    c: usize,
-    z: usize,
+    co: Coordinate,
     rect: PixelRect,
-) -> First
-    requires { ⌜ c < descriptionOf d .dims .c ⌝ }
+) -> Found
+    requires { ⌜ co .c < descriptionOf d .dims .c ⌝ }
     requires { ⌜ Lying (descriptionOf d) (rectOf rect) ⌝ }
     requires { ⌜ wholeRows (descriptionOf d) (now table) ≡ true ⌝ }
-    ensures { λ r. ⌜ firstOf r ≡ windowStrips (descriptionOf d) (now (table .entry)) len scene t c z (rectOf rect) ⌝ }
+    ensures { λ r. ⌜ foundOf r ≡ windowStrips (descriptionOf d) (now (table .entry)) len (coordinateOf co) (rectOf rect) ⌝ }
 {
     let dtype = d.dtype;
     let part = Dims5 {
@@ -159,8 +127,8 @@ fn window_strips(
         x: rect.w,
     };
     match part.checked_plane_bytes(dtype) {
-        PlaneBytes::Bytes(_) => row_strips(d, table, len, scene, t, c, z, rect),
-        PlaneBytes::Refused(r) => First::Refused(r),
+        PlaneBytes::Bytes(_) => row_strips(d, table, len, co, rect),
+        PlaneBytes::Refused(r) => Found::Refused(r),
     }
 }
 
@@ -170,34 +138,31 @@ pub(crate) fn region_strips(
     d: Description,
     table: &[usize],
     len: usize,
-    scene: usize,
-    t: usize,
-    c: usize,
-    z: usize,
+    co: Coordinate,
     rect: PixelRect,
-) -> First
-    requires { ⌜ c < descriptionOf d .dims .c ⌝ }
+) -> Found
+    requires { ⌜ co .c < descriptionOf d .dims .c ⌝ }
     requires { ⌜ Lying (descriptionOf d) (rectOf rect) ⌝ }
-    ensures { λ r. ⌜ firstOf r ≡ regionStrips (descriptionOf d) (now (table .entry)) len scene t c z (rectOf rect) ⌝ }
+    ensures { λ r. ⌜ foundOf r ≡ regionStrips (descriptionOf d) (now (table .entry)) len (coordinateOf co) (rectOf rect) ⌝ }
 {
     let dims = d.dims;
     let dtype = d.dtype;
     match dims.checked_plane_bytes(dtype) {
         PlaneBytes::Bytes(size) => {
-            if !past_test(d, scene, z) {
-                return sized_strips(d, table, len, scene, t, c, z, size);
+            if !past_test(d, co) {
+                return sized_strips(d, table, len, co, size);
             }
             if whole_rows(d, table) {
-                window_strips(d, table, len, scene, t, c, z, rect)
+                window_strips(d, table, len, co, rect)
             } else {
-                sized_strips(d, table, len, scene, t, c, z, size)
+                sized_strips(d, table, len, co, size)
             }
         }
         PlaneBytes::Refused(r) => {
             if whole_rows(d, table) {
-                window_strips(d, table, len, scene, t, c, z, rect)
+                window_strips(d, table, len, co, rect)
             } else {
-                First::Refused(r)
+                Found::Refused(r)
             }
         }
     }

@@ -1,4 +1,4 @@
-// The strips that plane and region read: all their checks but the last, in order, and the first strip of the picture.
+// The strips that plane and region read: all their checks but the last, in order, and which strips the picture has.
 mod checks;
 mod pages;
 mod strips;
@@ -10,90 +10,74 @@ use crate::checks::region_strips;
 use lsm_description::Description;
 use lsm_format::error::Check;
 use lsm_format::error::Refusal;
+use lsm_format::types::Coordinate;
 use lsm_format::types::PixelRect;
 use lsm_format::types::checked_region;
 ghost use mathlib.Core.Path.{_≡_};
 ghost use Prim.Native.Nat.{_<_};
 ghost use Rattle.lsm_format.specs.Answer.{accepted};
-ghost use Rattle.lsm_format.specs.Code.{rectOf};
+ghost use Rattle.lsm_format.specs.Code.{rectOf, coordinateOf};
 ghost use Rattle.lsm_format.specs.Rectangle.{isEmpty, rectangle};
+ghost use Rattle.lsm_format.specs.Picture.{planeFrom, filledStrips, regionFrom};
 ghost use Rattle.lsm_description.specs.Code.{descriptionOf};
-ghost use Rattle.lsm_strips.specs.Parts.{firstOf, partOf, planeFirst, filledFirst, regionFirst};
+ghost use Rattle.lsm_strips.specs.Parts.{foundOf};
 
-// The first strip of a picture, or why there is none.
-pub enum First {
-    At(usize),
-    Refused(Refusal),
+// So many strips of the table, from the first on.
+pub struct StripRun {
+    pub first: usize,
+    pub count: usize,
 }
 
-// The first strip of a picture that a rectangle is read from, or why there is none. An empty rectangle needs no strip.
-pub enum Part {
-    Empty,
-    At(usize),
+// The strips that a picture is read from, or why there are none.
+pub enum Found {
+    Strips(StripRun),
     Refused(Refusal),
 }
 
 // Plane's: the coordinate, then size, page, strips.
-pub fn first_of_plane(
-    d: Description,
-    table: &[usize],
-    len: usize,
-    scene: usize,
-    t: usize,
-    c: usize,
-    z: usize,
-) -> First
-    ensures { λ r. ⌜ firstOf r ≡ planeFirst (descriptionOf d) (now (table .entry)) len scene t c z ⌝ }
+pub fn plane_from(d: Description, table: &[usize], len: usize, co: Coordinate) -> Found
+    ensures { λ r. ⌜ foundOf r ≡ planeFrom (descriptionOf d) (now (table .entry)) len (coordinateOf co) ⌝ }
 {
-    match checked_place(d, scene, t, c, z) {
-        Check::Accepted => plane_strips(d, table, len, scene, t, c, z),
-        Check::Refused(place) => First::Refused(place),
+    match checked_place(d, co) {
+        Check::Accepted => plane_strips(d, table, len, co),
+        Check::Refused(place) => Found::Refused(place),
     }
 }
 
-// That of a rectangle that lies in the picture. An empty one asks nothing of the strips.
-fn first_of_part(
+// Those of a rectangle that lies in the picture. An empty one is read from none, and asks nothing of them.
+fn filled_strips(
     d: Description,
     table: &[usize],
     len: usize,
-    scene: usize,
-    t: usize,
-    c: usize,
-    z: usize,
+    co: Coordinate,
     rect: PixelRect,
-) -> Part
-    requires { ⌜ c < descriptionOf d .dims .c ⌝ }
+) -> Found
+    requires { ⌜ co .c < descriptionOf d .dims .c ⌝ }
     requires { ⌜ rectangle (descriptionOf d .dims) (rectOf rect) ≡ accepted tt ⌝ }
-    ensures { λ r. ⌜ partOf r ≡ filledFirst (isEmpty (rectOf rect)) (descriptionOf d) (now (table .entry)) len scene t c z (rectOf rect) ⌝ }
+    ensures { λ r. ⌜ foundOf r ≡ filledStrips (isEmpty (rectOf rect)) (descriptionOf d) (now (table .entry)) len (coordinateOf co) (rectOf rect) ⌝ }
 {
     if rect.is_empty() {
-        return Part::Empty;
+        return Found::Strips(StripRun { first: 0, count: 0 });
     }
-    match region_strips(d, table, len, scene, t, c, z, rect) {
-        First::At(first) => Part::At(first),
-        First::Refused(r) => Part::Refused(r),
-    }
+    region_strips(d, table, len, co, rect)
 }
 
 // Region's: the scene, the coordinate and the rectangle, whether it is empty, then the strips.
-pub fn first_of_region(
+pub fn region_from(
     d: Description,
     table: &[usize],
     len: usize,
-    scene: usize,
-    t: usize,
-    c: usize,
-    z: usize,
+    co: Coordinate,
     rect: PixelRect,
-) -> Part
-    ensures { λ r. ⌜ partOf r ≡ regionFirst (descriptionOf d) (now (table .entry)) len scene t c z (rectOf rect) ⌝ }
+) -> Found
+    ensures { λ r. ⌜ foundOf r ≡ regionFrom (descriptionOf d) (now (table .entry)) len (coordinateOf co) (rectOf rect) ⌝ }
 {
     let dims = d.dims;
-    match checked_scene(d, scene) {
-        Check::Accepted => match checked_region(dims, scene, t, c, z, rect) {
-            Check::Accepted => first_of_part(d, table, len, scene, t, c, z, rect),
-            Check::Refused(outside) => Part::Refused(outside),
+    match checked_scene(d, co.scene) {
+        Check::Accepted => match checked_region(dims, co.scene, co.t, co.c, co.z, rect) {
+            Check::Accepted => filled_strips(d, table, len, co, rect),
+            Check::Refused(outside) => Found::Refused(outside),
         },
-        Check::Refused(missing) => Part::Refused(missing),
+        Check::Refused(missing) => Found::Refused(missing),
     }
 }

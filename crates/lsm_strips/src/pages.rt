@@ -1,20 +1,23 @@
 // Where a picture's strips stand in the table, and whether all pages' strips hold whole rows. A handed-in description can name any
 // page, so every product is tested before it is used.
-use crate::First;
+use crate::Found;
+use crate::StripRun;
 use crate::strips::strips_of_rows;
 use lsm_description::Description;
 use lsm_format::checked::Word;
 use lsm_format::checked::checked_mul;
 use lsm_format::error::Refusal;
+use lsm_format::types::Coordinate;
 use lsm_positions::ExpectedPages;
 use lsm_positions::PageIndex;
 ghost use mathlib.Core.Path.{_≡_};
 ghost use mathlib.Core.Bool.{true};
 ghost use Prim.Native.Nat.{_+_, _*_, _≤_, _<_};
 ghost use lib.ListN.{length};
-ghost use Rattle.lsm_format.specs.Picture.{stripsPerPage, channelStrips, rowBytes, wholeChannels, wholePages, wholeRows};
+ghost use Rattle.lsm_format.specs.Code.{coordinateOf};
+ghost use Rattle.lsm_format.specs.Picture.{stripsPerPage, channelStrips, rowBytes, wholeChannels, wholePage, wholePages, wholeRows};
 ghost use Rattle.lsm_description.specs.Code.{descriptionOf};
-ghost use Rattle.lsm_strips.specs.Parts.{firstOf, pageIn, pastTest, wholePage};
+ghost use Rattle.lsm_strips.specs.Parts.{foundOf, pageIn, pastTest};
 
 // Whether a table of so many words has this page whole, where a page has so many strips.
 fn has_page(strips: usize, words: usize, page: usize) -> bool
@@ -26,40 +29,43 @@ fn has_page(strips: usize, words: usize, page: usize) -> bool
     page < words / 2 / strips
 }
 
-// The first strip of a channel of the page that a scene's focal plane has.
-pub(crate) fn channel_strips(
-    d: Description,
-    words: usize,
-    scene: usize,
-    t: usize,
-    c: usize,
-    z: usize,
-) -> First
-    requires { ⌜ c < descriptionOf d .dims .c ⌝ }
-    ensures { λ r. ⌜ firstOf r ≡ channelStrips (descriptionOf d) words scene t c z ⌝ }
+// The strips of a channel of the page that a scene's focal plane has.
+pub(crate) fn channel_strips(d: Description, words: usize, co: Coordinate) -> Found
+    requires { ⌜ co .c < descriptionOf d .dims .c ⌝ }
+    ensures { λ r. ⌜ foundOf r ≡ channelStrips (descriptionOf d) words (coordinateOf co) ⌝ }
 {
     let layout = d.layout;
     let dims = d.dims;
-    let outside = Refusal::OutOfRange { scene, t, c, z };
-    let PageIndex::Page(page) = layout.page_index(scene, z) else {
-        return First::Refused(outside);
+    let n = d.strips_per_channel;
+    let c = co.c;
+    let outside = Refusal::OutOfRange {
+        scene: co.scene,
+        t: co.t,
+        c,
+        z: co.z,
     };
-    let Word::Value(strips) = checked_mul(dims.c, d.strips_per_channel) else {
-        return First::Refused(outside);
+    let PageIndex::Page(page) = layout.page_index(co.scene, co.z) else {
+        return Found::Refused(outside);
+    };
+    let Word::Value(strips) = checked_mul(dims.c, n) else {
+        return Found::Refused(outside);
     };
     if has_page(strips, words, page) {
-        First::At(page * strips + c * d.strips_per_channel)
+        Found::Strips(StripRun {
+            first: page * strips + c * n,
+            count: n,
+        })
     } else {
-        First::Refused(outside)
+        Found::Refused(outside)
     }
 }
 
 // Whether the page that a scene's focal plane has is past those of the whole-row test. No page of an opened file is.
-pub(crate) fn past_test(d: Description, scene: usize, z: usize) -> bool
-    ensures { λ r. ⌜ r ≡ pastTest (descriptionOf d) scene z ⌝ }
+pub(crate) fn past_test(d: Description, co: Coordinate) -> bool
+    ensures { λ r. ⌜ r ≡ pastTest (descriptionOf d) (coordinateOf co) ⌝ }
 {
     let layout = d.layout;
-    let PageIndex::Page(page) = layout.page_index(scene, z) else {
+    let PageIndex::Page(page) = layout.page_index(co.scene, co.z) else {
         return false;
     };
     match layout.expected_pages() {
@@ -132,8 +138,8 @@ pub(crate) fn whole_rows(d: Description, table: &[usize]) -> bool
     if row == 0 {
         return false;
     }
-    let Word::Value(pages) = checked_mul(layout.scenes, layout.pages_per_scene) else {
-        return false;
-    };
-    whole_pages(d, table, pages, row)
+    match layout.expected_pages() {
+        ExpectedPages::Pages(pages) => whole_pages(d, table, pages, row),
+        ExpectedPages::Refused(_) => false,
+    }
 }

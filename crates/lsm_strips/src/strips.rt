@@ -1,10 +1,14 @@
 // What is asked of a channel's strips. Strip i has the table's words 2 * i, where it starts, and 2 * i + 1, its bytes.
+use lsm_format::error::Check;
+use lsm_format::error::Refusal;
 ghost use mathlib.Core.Path.{_≡_};
 ghost use Prim.Native.Nat.{_+_, _*_, _≤_, _<_};
 ghost use lib.Dec.{leb};
 ghost use lib.ListN.{length};
-ghost use Rattle.lsm_format.specs.Picture.{total, inside};
-ghost use Rattle.lsm_strips.specs.Parts.{made, wholeRowsOf};
+ghost use Rattle.lsm_format.specs.Answer.{decode};
+ghost use Rattle.lsm_format.specs.Code.{checkOf};
+ghost use Rattle.lsm_format.specs.Picture.{total, inside, inTurn};
+ghost use Rattle.lsm_strips.specs.Parts.{wholeRowsOf};
 
 // Whether a strip lies in a file of so many bytes. Its end can overflow, so it isn't reckoned.
 fn lies_within(offset: usize, count: usize, len: usize) -> bool
@@ -33,11 +37,17 @@ pub(crate) fn strips_inside(table: &[usize], first: usize, n: usize, len: usize)
     true
 }
 
-// Whether each of the strips lies in the file, and all of them together have the picture's bytes. What is still to come of these
-// bytes is counted down, since the strips' sum can overflow.
-pub(crate) fn strips_make(table: &[usize], first: usize, n: usize, len: usize, size: usize) -> bool
+// The strips in turn: each lies in the file, and has no more bytes than are still to come; together they have the picture's bytes. What is
+// still to come is counted down, since the strips' sum can overflow.
+pub(crate) fn strips_in_turn(
+    table: &[usize],
+    first: usize,
+    n: usize,
+    len: usize,
+    size: usize,
+) -> Check
     requires { ⌜ 2 * (first + n) ≤ length (now table) ⌝ }
-    ensures { λ r. ⌜ r ≡ made (now (table .entry)) len first n size ⌝ }
+    ensures { λ r. ⌜ checkOf r ≡ inTurn decode decode (now (table .entry)) len first n size ⌝ }
 {
     let mut i = first;
     let mut left = n;
@@ -45,16 +55,19 @@ pub(crate) fn strips_make(table: &[usize], first: usize, n: usize, len: usize, s
     while 0 < left {
         let count = table[2 * i + 1];
         if !lies_within(table[2 * i], count, len) {
-            return false;
+            return Check::Refused(Refusal::Decode); // outside the file
         }
         if bytes < count {
-            return false;
+            return Check::Refused(Refusal::Decode); // too many bytes
         }
         bytes -= count;
         i += 1;
         left -= 1;
     }
-    bytes == 0
+    if 0 < bytes {
+        return Check::Refused(Refusal::Decode); // too few
+    }
+    Check::Accepted
 }
 
 // Whether each of the strips holds whole rows, and all of them together the picture's. The rows still to come are counted down.

@@ -10,13 +10,13 @@ use Rattle.lsm_format.specs.Answer.{Result, accepted, refused, bind}
 use Rattle.lsm_format.specs.Words.{word}
 use Rattle.lsm_format.specs.Numbers.{little, big, partAt}
 use Rattle.lsm_format.specs.Sizes.{Kind, u8, u16, f32, pictureSize, unlimitedSize}
-use Rattle.lsm_format.specs.Rectangle.{Rect, coordinates, rectangle}
+use Rattle.lsm_format.specs.Rectangle.{Rect, coordinate, coordinates, rectangle}
 use Rattle.lsm_format.specs.Scenes.{pageOf}
 use Rattle.lsm_format.specs.Lent.{lend}
 use Rattle.lsm_format.specs.Calibration.{uncalibrated}
 use Rattle.lsm_format.specs.Channels.{lookup, channelIn, pointers}
 use Rattle.lsm_format.specs.Open.{Description}
-use Rattle.lsm_format.specs.Picture.{Samples, coordinate, plane, planeStrips, channelStrips, inside, total, samplesIn, channelPicture, window, span, picture, bytes, stored, place, each, region, regionStrips, wholeRows, wholePages, wholeChannels, wholeChannel, wholeStrips, rowsIn, windowStrips, into}
+use Rattle.lsm_format.specs.Picture.{Samples, sceneThere, coordinateThere, plane, planeFrom, planeStrips, inTurn, channelStrips, inside, total, samplesIn, channelPicture, window, span, picture, bytes, stored, place, each, region, regionFrom, regionStrips, wholeRows, wholePages, wholeChannels, wholeChannel, wholeStrips, rowsIn, rowStrips, windowStrips, into}
 
 -- One time point; so many channels, planes, rows and columns; scenes of so many pages; strips of a channel.
 abbrev described : Kind → ℕ → ℕ → ℕ → ℕ → ℕ → ℕ → ℕ → Description
@@ -49,52 +49,72 @@ four = 10 ∷ 11 ∷ 12 ∷ 13 ∷ []
 
 plane-order :
     -- "Plane: scene": 5, whatever else is wrong
-    (plane (single u8 (2 ^ 40) (2 ^ 40) 0) [] four 1 1 1 1 ≡ refused (5 ∷ 1 ∷ 1 ∷ []))
+    (plane (single u8 (2 ^ 40) (2 ^ 40) 0) [] four (coordinate 1 1 1 1) ≡ refused (5 ∷ 1 ∷ 1 ∷ []))
     -- "t, c, z": 6, although the picture is oversized
-    × (plane (single u8 (2 ^ 40) 1 0) [] four 0 0 1 0 ≡ refused (6 ∷ 0 ∷ 0 ∷ 1 ∷ 0 ∷ []))
-    × (plane (single u8 (2 ^ 40) 1 0) [] four 0 1 0 0 ≡ refused (6 ∷ 0 ∷ 1 ∷ 0 ∷ 0 ∷ []))
-    × (plane (single u8 (2 ^ 40) 1 0) [] four 0 0 0 1 ≡ refused (6 ∷ 0 ∷ 0 ∷ 0 ∷ 1 ∷ []))
+    × (plane (single u8 (2 ^ 40) 1 0) [] four (coordinate 0 0 1 0) ≡ refused (6 ∷ 0 ∷ 0 ∷ 1 ∷ 0 ∷ []))
+    × (plane (single u8 (2 ^ 40) 1 0) [] four (coordinate 0 1 0 0) ≡ refused (6 ∷ 0 ∷ 1 ∷ 0 ∷ 0 ∷ []))
+    × (plane (single u8 (2 ^ 40) 1 0) [] four (coordinate 0 0 0 1) ≡ refused (6 ∷ 0 ∷ 0 ∷ 0 ∷ 1 ∷ []))
     -- "size": 4, although there is no page
-    × (plane (single u8 (2 ^ 40) 1 0) [] four 0 0 0 0 ≡ refused (4 ∷ 2 ^ 40 ∷ 4294967296 ∷ []))
+    × (plane (single u8 (2 ^ 40) 1 0) [] four (coordinate 0 0 0 0) ≡ refused (4 ∷ 2 ^ 40 ∷ 4294967296 ∷ []))
     -- "a size that overflows (requested 2^64 − 1)"
-    × (plane (single u16 (2 ^ 32) (2 ^ 32) 0) [] four 0 0 0 0 ≡ refused (4 ∷ (2 ^ 64 - 1) ∷ 4294967296 ∷ []))
+    × (plane (single u16 (2 ^ 32) (2 ^ 32) 0) [] four (coordinate 0 0 0 0) ≡ refused (4 ∷ (2 ^ 64 - 1) ∷ 4294967296 ∷ []))
     -- the largest picture that a file can announce
-    × (plane (single f32 (2 ^ 31 - 1) (2 ^ 31 - 1) 1) (0 ∷ 1 ∷ []) four 0 0 0 0 ≡ refused (4 ∷ 18446744056529682436 ∷ 4294967296 ∷ []))
+    × (plane (single f32 (2 ^ 31 - 1) (2 ^ 31 - 1) 1) (0 ∷ 1 ∷ []) four (coordinate 0 0 0 0) ≡ refused (4 ∷ 18446744056529682436 ∷ 4294967296 ∷ []))
     -- "page": "A page number that overflows [..] is 6"
-    × (plane (described u8 1 1 1 1 3 (2 ^ 63) 1) (0 ∷ 1 ∷ []) four 2 0 0 0 ≡ refused (6 ∷ 2 ∷ 0 ∷ 0 ∷ 0 ∷ []))
+    × (plane (described u8 1 1 1 1 3 (2 ^ 63) 1) (0 ∷ 1 ∷ []) four (coordinate 2 0 0 0) ≡ refused (6 ∷ 2 ∷ 0 ∷ 0 ∷ 0 ∷ []))
     -- "no strips per page": 6, also for a picture of no bytes
-    × (plane (single u8 1 1 0) (0 ∷ 1 ∷ []) four 0 0 0 0 ≡ refused (6 ∷ 0 ∷ 0 ∷ 0 ∷ 0 ∷ []))
-    × (plane (single u8 0 1 0) (0 ∷ 1 ∷ []) four 0 0 0 0 ≡ refused (6 ∷ 0 ∷ 0 ∷ 0 ∷ 0 ∷ []))
+    × (plane (single u8 1 1 0) (0 ∷ 1 ∷ []) four (coordinate 0 0 0 0) ≡ refused (6 ∷ 0 ∷ 0 ∷ 0 ∷ 0 ∷ []))
+    × (plane (single u8 0 1 0) (0 ∷ 1 ∷ []) four (coordinate 0 0 0 0) ≡ refused (6 ∷ 0 ∷ 0 ∷ 0 ∷ 0 ∷ []))
     -- "a page not wholly in the table": channel 0 has its strip there, channel 1 lacks a word
-    × (plane (described u8 2 1 1 1 1 1 1) (0 ∷ 1 ∷ 0 ∷ []) four 0 0 0 0 ≡ refused (6 ∷ 0 ∷ 0 ∷ 0 ∷ 0 ∷ []))
+    × (plane (described u8 2 1 1 1 1 1 1) (0 ∷ 1 ∷ 0 ∷ []) four (coordinate 0 0 0 0) ≡ refused (6 ∷ 0 ∷ 0 ∷ 0 ∷ 0 ∷ []))
     -- "(reckoned exactly)": strips whose words are 2 ^ 64 in all are not the table of no words
-    × (plane (described u8 (2 ^ 32) 1 1 1 1 1 (2 ^ 31)) [] four 0 0 0 0 ≡ refused (6 ∷ 0 ∷ 0 ∷ 0 ∷ 0 ∷ []))
+    × (plane (described u8 (2 ^ 32) 1 1 1 1 1 (2 ^ 31)) [] four (coordinate 0 0 0 0) ≡ refused (6 ∷ 0 ∷ 0 ∷ 0 ∷ 0 ∷ []))
     -- "a strip whose offset plus length overflows is 2"
-    × (plane (single u8 1 1 1) ((2 ^ 64 - 1) ∷ 1 ∷ []) four 0 0 0 0 ≡ refused (2 ∷ []))
+    × (plane (single u8 1 1 1) ((2 ^ 64 - 1) ∷ 1 ∷ []) four (coordinate 0 0 0 0) ≡ refused (2 ∷ []))
     -- "each within the file"
-    × (plane (single u8 1 2 1) (3 ∷ 2 ∷ []) four 0 0 0 0 ≡ refused (2 ∷ []))
+    × (plane (single u8 1 2 1) (3 ∷ 2 ∷ []) four (coordinate 0 0 0 0) ≡ refused (2 ∷ []))
     -- "then within the picture's size; their total": one byte too many, one too few
-    × (plane (single u8 1 2 1) (0 ∷ 3 ∷ []) four 0 0 0 0 ≡ refused (2 ∷ []))
-    × (plane (single u8 1 2 1) (0 ∷ 1 ∷ []) four 0 0 0 0 ≡ refused (2 ∷ []))
+    × (plane (single u8 1 2 1) (0 ∷ 3 ∷ []) four (coordinate 0 0 0 0) ≡ refused (2 ∷ []))
+    × (plane (single u8 1 2 1) (0 ∷ 1 ∷ []) four (coordinate 0 0 0 0) ≡ refused (2 ∷ []))
     -- "buffer last"
-    × (into (plane (single u8 1 2 1) (1 ∷ 2 ∷ []) four 0 0 0 0) 1 ≡ refused (7 ∷ 2 ∷ []))
-    × (into (plane (single u8 1 2 1) (1 ∷ 2 ∷ []) four 0 0 0 0) 2 ≡ samples 1 2 (11 ∷ 12 ∷ []))
-unfolding plane into lend coordinate coordinates planeStrips pictureSize unlimitedSize word channelStrips pageOf inside total samplesIn channelPicture window span picture bytes stored place each bind
+    × (into (plane (single u8 1 2 1) (1 ∷ 2 ∷ []) four (coordinate 0 0 0 0)) 1 ≡ refused (7 ∷ 2 ∷ []))
+    × (into (plane (single u8 1 2 1) (1 ∷ 2 ∷ []) four (coordinate 0 0 0 0)) 2 ≡ samples 1 2 (11 ∷ 12 ∷ []))
+unfolding plane planeFrom into lend sceneThere coordinateThere coordinates planeStrips inTurn pictureSize unlimitedSize word channelStrips pageOf inside total samplesIn channelPicture window span picture bytes stored place each bind
 plane-order = (refl, refl, refl, refl, refl, refl, refl, refl, refl, refl, refl, refl, refl, refl, refl, refl, refl, refl)
+
+-- "strips in turn, each within the file, then within the picture's size; their total", with 13 for a strip outside the file and 14 for bytes
+-- that are miscounted, so that the rows tell which of them is found first: two strips and a file of four bytes, a picture of three
+in-turn :
+    -- the first strip too long, the second outside the file: the first strip's fault
+    (inTurn (13 ∷ []) (14 ∷ []) (0 ∷ 4 ∷ 9 ∷ 1 ∷ []) 4 0 2 3 ≡ refused (14 ∷ []))
+    -- the first outside, the second too long
+    × (inTurn (13 ∷ []) (14 ∷ []) (9 ∷ 1 ∷ 0 ∷ 4 ∷ []) 4 0 2 3 ≡ refused (13 ∷ []))
+    -- one strip that is both: outside the file comes first
+    × (inTurn (13 ∷ []) (14 ∷ []) (0 ∷ 5 ∷ 0 ∷ 1 ∷ []) 4 0 2 3 ≡ refused (13 ∷ []))
+    -- the second passes what the first leaves of the picture
+    × (inTurn (13 ∷ []) (14 ∷ []) (0 ∷ 2 ∷ 0 ∷ 2 ∷ []) 4 0 2 3 ≡ refused (14 ∷ []))
+    -- their total falls short: only after all lie in the file
+    × (inTurn (13 ∷ []) (14 ∷ []) (0 ∷ 1 ∷ 0 ∷ 1 ∷ []) 4 0 2 3 ≡ refused (14 ∷ []))
+    × (inTurn (13 ∷ []) (14 ∷ []) (0 ∷ 1 ∷ 4 ∷ 1 ∷ []) 4 0 2 3 ≡ refused (13 ∷ []))
+    -- a strip of no bytes at the file's end passes, and past it doesn't
+    × (inTurn (13 ∷ []) (14 ∷ []) (0 ∷ 3 ∷ 4 ∷ 0 ∷ []) 4 0 2 3 ≡ accepted tt)
+    × (inTurn (13 ∷ []) (14 ∷ []) (0 ∷ 3 ∷ 5 ∷ 0 ∷ []) 4 0 2 3 ≡ refused (13 ∷ []))
+unfolding inTurn bind
+in-turn = (refl, refl, refl, refl, refl, refl, refl, refl)
 
 -- ---- the picture
 
 joined :
     -- "the channel's joined strips": three bytes, then one, in rows of two
-    (plane (single u8 2 2 2) (1 ∷ 3 ∷ 0 ∷ 1 ∷ []) four 0 0 0 0 ≡ samples 2 2 (11 ∷ 12 ∷ 13 ∷ 10 ∷ []))
+    (plane (single u8 2 2 2) (1 ∷ 3 ∷ 0 ∷ 1 ∷ []) four (coordinate 0 0 0 0) ≡ samples 2 2 (11 ∷ 12 ∷ 13 ∷ 10 ∷ []))
     -- a rectangle across them
-    × (region (single u8 2 2 2) (1 ∷ 3 ∷ 0 ∷ 1 ∷ []) four 0 0 0 0 (rect 1 0 1 2) ≡ samples 2 1 (12 ∷ 10 ∷ []))
+    × (region (single u8 2 2 2) (1 ∷ 3 ∷ 0 ∷ 1 ∷ []) four (coordinate 0 0 0 0) (rect 1 0 1 2) ≡ samples 2 1 (12 ∷ 10 ∷ []))
     -- a sample that two strips share
-    × (plane (single u16 1 2 2) (0 ∷ 3 ∷ 3 ∷ 1 ∷ []) four 0 0 0 0 ≡ samples 1 2 (10 ∷ 11 ∷ 12 ∷ 13 ∷ []))
+    × (plane (single u16 1 2 2) (0 ∷ 3 ∷ 3 ∷ 1 ∷ []) four (coordinate 0 0 0 0) ≡ samples 1 2 (10 ∷ 11 ∷ 12 ∷ 13 ∷ []))
     -- the second channel's strip; the second page's
-    × (plane (described u8 2 1 1 1 1 1 1) (0 ∷ 1 ∷ 3 ∷ 1 ∷ []) four 0 0 1 0 ≡ samples 1 1 (13 ∷ []))
-    × (plane (described u8 1 1 1 1 2 1 1) (0 ∷ 1 ∷ 3 ∷ 1 ∷ []) four 1 0 0 0 ≡ samples 1 1 (13 ∷ []))
-unfolding plane region coordinate coordinates rectangle planeStrips regionStrips windowStrips wholeRows wholePages wholeChannels wholeChannel wholeStrips rowsIn pictureSize unlimitedSize word channelStrips pageOf inside total samplesIn channelPicture window span picture bytes stored place each bind
+    × (plane (described u8 2 1 1 1 1 1 1) (0 ∷ 1 ∷ 3 ∷ 1 ∷ []) four (coordinate 0 0 1 0) ≡ samples 1 1 (13 ∷ []))
+    × (plane (described u8 1 1 1 1 2 1 1) (0 ∷ 1 ∷ 3 ∷ 1 ∷ []) four (coordinate 1 0 0 0) ≡ samples 1 1 (13 ∷ []))
+unfolding plane planeFrom region regionFrom sceneThere coordinateThere coordinates rectangle planeStrips inTurn regionStrips rowStrips windowStrips wholeRows wholePages wholeChannels wholeChannel wholeStrips rowsIn pictureSize unlimitedSize word channelStrips pageOf inside total samplesIn channelPicture window span picture bytes stored place each bind
 joined = (refl, refl, refl, refl, refl)
 
 -- the same description in big-endian order
@@ -112,39 +132,39 @@ turned d =
 
 -- "little-endian whatever the file's order"
 turned-round :
-    (plane (turned (single u16 1 2 2)) (0 ∷ 3 ∷ 3 ∷ 1 ∷ []) four 0 0 0 0 ≡ samples 1 2 (11 ∷ 10 ∷ 13 ∷ 12 ∷ []))
-    × (region (turned (single u16 1 2 2)) (0 ∷ 3 ∷ 3 ∷ 1 ∷ []) four 0 0 0 0 (rect 1 0 1 1) ≡ samples 1 1 (13 ∷ 12 ∷ []))
-    × (plane (turned (single f32 1 1 1)) (0 ∷ 4 ∷ []) four 0 0 0 0 ≡ samples 1 1 (13 ∷ 12 ∷ 11 ∷ 10 ∷ []))
-unfolding plane region coordinate coordinates rectangle planeStrips regionStrips windowStrips wholeRows wholePages wholeChannels wholeChannel wholeStrips rowsIn pictureSize unlimitedSize word channelStrips pageOf inside total samplesIn channelPicture window span picture bytes stored place each bind
+    (plane (turned (single u16 1 2 2)) (0 ∷ 3 ∷ 3 ∷ 1 ∷ []) four (coordinate 0 0 0 0) ≡ samples 1 2 (11 ∷ 10 ∷ 13 ∷ 12 ∷ []))
+    × (region (turned (single u16 1 2 2)) (0 ∷ 3 ∷ 3 ∷ 1 ∷ []) four (coordinate 0 0 0 0) (rect 1 0 1 1) ≡ samples 1 1 (13 ∷ 12 ∷ []))
+    × (plane (turned (single f32 1 1 1)) (0 ∷ 4 ∷ []) four (coordinate 0 0 0 0) ≡ samples 1 1 (13 ∷ 12 ∷ 11 ∷ 10 ∷ []))
+unfolding plane planeFrom region regionFrom sceneThere coordinateThere coordinates rectangle planeStrips inTurn regionStrips rowStrips windowStrips wholeRows wholePages wholeChannels wholeChannel wholeStrips rowsIn pictureSize unlimitedSize word channelStrips pageOf inside total samplesIn channelPicture window span picture bytes stored place each bind
 turned-round = (refl, refl, refl)
 
 -- ---- region
 
 region-order :
     -- "Region: scene; t, c, z"
-    (region (single u8 1 2 0) [] four 1 0 1 0 (rect 3 0 1 1) ≡ refused (5 ∷ 1 ∷ 1 ∷ []))
-    × (region (single u8 1 2 0) [] four 0 0 1 0 (rect 3 0 1 1) ≡ refused (6 ∷ 0 ∷ 0 ∷ 1 ∷ 0 ∷ []))
+    (region (single u8 1 2 0) [] four (coordinate 1 0 1 0) (rect 3 0 1 1) ≡ refused (5 ∷ 1 ∷ 1 ∷ []))
+    × (region (single u8 1 2 0) [] four (coordinate 0 0 1 0) (rect 3 0 1 1) ≡ refused (6 ∷ 0 ∷ 0 ∷ 1 ∷ 0 ∷ []))
     -- "rectangle": 2 before size and page; one whose end passes the picture, one whose end overflows
-    × (region (single u8 1 (2 ^ 40) 0) [] four 0 0 0 0 (rect (2 ^ 40) 0 1 1) ≡ refused (2 ∷ []))
-    × (region (single u8 1 (2 ^ 40) 0) [] four 0 0 0 0 (rect (2 ^ 64 - 1) 0 1 1) ≡ refused (2 ∷ []))
-    × (region (single u8 1 (2 ^ 40) 0) [] four 0 0 0 0 (rect 0 1 1 1) ≡ refused (2 ∷ []))
+    × (region (single u8 1 (2 ^ 40) 0) [] four (coordinate 0 0 0 0) (rect (2 ^ 40) 0 1 1) ≡ refused (2 ∷ []))
+    × (region (single u8 1 (2 ^ 40) 0) [] four (coordinate 0 0 0 0) (rect (2 ^ 64 - 1) 0 1 1) ≡ refused (2 ∷ []))
+    × (region (single u8 1 (2 ^ 40) 0) [] four (coordinate 0 0 0 0) (rect 0 1 1 1) ≡ refused (2 ∷ []))
     -- "empty": accepted, although the picture is oversized and there is no page; not past the picture
-    × (region (single u8 1 (2 ^ 40) 0) [] four 0 0 0 0 (rect (2 ^ 40) 0 0 1) ≡ samples 1 0 [])
-    × (region (single u8 1 (2 ^ 40) 0) [] four 0 0 0 0 (rect 0 1 5 0) ≡ samples 0 5 [])
-    × (region (single u8 1 2 0) [] four 0 0 0 0 (rect 3 0 0 1) ≡ refused (2 ∷ []))
+    × (region (single u8 1 (2 ^ 40) 0) [] four (coordinate 0 0 0 0) (rect (2 ^ 40) 0 0 1) ≡ samples 1 0 [])
+    × (region (single u8 1 (2 ^ 40) 0) [] four (coordinate 0 0 0 0) (rect 0 1 5 0) ≡ samples 0 5 [])
+    × (region (single u8 1 2 0) [] four (coordinate 0 0 0 0) (rect 3 0 0 1) ≡ refused (2 ∷ []))
     -- "otherwise all of plane's checks": size first, although the rectangle is small
-    × (region (single u8 1 (2 ^ 40) 1) (0 ∷ 4 ∷ []) four 0 0 0 0 (rect 0 0 1 1) ≡ refused (4 ∷ 2 ^ 40 ∷ 4294967296 ∷ []))
+    × (region (single u8 1 (2 ^ 40) 1) (0 ∷ 4 ∷ []) four (coordinate 0 0 0 0) (rect 0 0 1 1) ≡ refused (4 ∷ 2 ^ 40 ∷ 4294967296 ∷ []))
     -- a strip of this channel outside the file, although no sample of the rectangle is in it
-    × (region (single u8 2 1 2) (0 ∷ 1 ∷ 4 ∷ 1 ∷ []) four 0 0 0 0 (rect 0 0 1 1) ≡ refused (2 ∷ []))
+    × (region (single u8 2 1 2) (0 ∷ 1 ∷ 4 ∷ 1 ∷ []) four (coordinate 0 0 0 0) (rect 0 0 1 1) ≡ refused (2 ∷ []))
     -- strips outside the file of another channel and another page do no harm
-    × (region (described u8 2 1 1 1 2 1 1) (3 ∷ 1 ∷ 9 ∷ 1 ∷ 9 ∷ 1 ∷ 9 ∷ 1 ∷ []) four 0 0 0 0 (rect 0 0 1 1) ≡ samples 1 1 (13 ∷ []))
+    × (region (described u8 2 1 1 1 2 1 1) (3 ∷ 1 ∷ 9 ∷ 1 ∷ 9 ∷ 1 ∷ 9 ∷ 1 ∷ []) four (coordinate 0 0 0 0) (rect 0 0 1 1) ≡ samples 1 1 (13 ∷ []))
     -- where every page's strips hold whole rows: the rectangle's size, then the page, then the strips
-    × (region (single u8 2 (2 ^ 33) 2) (0 ∷ 2 ^ 33 ∷ 0 ∷ 2 ^ 33 ∷ []) four 0 0 0 0 (rect 0 0 (2 ^ 33) 1) ≡ refused (4 ∷ 2 ^ 33 ∷ 4294967296 ∷ []))
-    × (region (single u8 2 (2 ^ 33) 2) (0 ∷ 2 ^ 33 ∷ 0 ∷ 2 ^ 33 ∷ []) four 0 0 0 0 (rect 0 0 1 1) ≡ refused (2 ∷ []))
+    × (region (single u8 2 (2 ^ 33) 2) (0 ∷ 2 ^ 33 ∷ 0 ∷ 2 ^ 33 ∷ []) four (coordinate 0 0 0 0) (rect 0 0 (2 ^ 33) 1) ≡ refused (4 ∷ 2 ^ 33 ∷ 4294967296 ∷ []))
+    × (region (single u8 2 (2 ^ 33) 2) (0 ∷ 2 ^ 33 ∷ 0 ∷ 2 ^ 33 ∷ []) four (coordinate 0 0 0 0) (rect 0 0 1 1) ≡ refused (2 ∷ []))
     -- "buffer last"
-    × (into (region (single u8 1 2 1) (1 ∷ 2 ∷ []) four 0 0 0 0 (rect 1 0 1 1)) 0 ≡ refused (7 ∷ 1 ∷ []))
-    × (into (region (single u8 1 2 1) (1 ∷ 2 ∷ []) four 0 0 0 0 (rect 1 0 0 1)) 0 ≡ samples 1 0 [])
-unfolding region into lend coordinate coordinates rectangle planeStrips regionStrips windowStrips wholeRows wholePages wholeChannels wholeChannel wholeStrips rowsIn pictureSize unlimitedSize word channelStrips pageOf inside total samplesIn channelPicture window span picture bytes stored place each bind
+    × (into (region (single u8 1 2 1) (1 ∷ 2 ∷ []) four (coordinate 0 0 0 0) (rect 1 0 1 1)) 0 ≡ refused (7 ∷ 1 ∷ []))
+    × (into (region (single u8 1 2 1) (1 ∷ 2 ∷ []) four (coordinate 0 0 0 0) (rect 1 0 0 1)) 0 ≡ samples 1 0 [])
+unfolding region regionFrom into lend sceneThere coordinateThere coordinates rectangle planeStrips inTurn regionStrips rowStrips windowStrips wholeRows wholePages wholeChannels wholeChannel wholeStrips rowsIn pictureSize unlimitedSize word channelStrips pageOf inside total samplesIn channelPicture window span picture bytes stored place each bind
 region-order = (refl, refl, refl, refl, refl, refl, refl, refl, refl, refl, refl, refl, refl, refl, refl)
 
 -- ---- the whole-row test
@@ -186,40 +206,40 @@ lookups = (refl, refl, refl, refl)
 past-the-test :
     -- "the rectangle's size, the page, and all the channel's strips within the file" decide, although this page's strip holds three bytes in rows
     -- of two, and plane refuses it
-    (region (described u8 1 2 1 2 1 1 1) (0 ∷ 2 ∷ 0 ∷ 3 ∷ []) four 0 0 0 1 (rect 0 0 2 1) ≡ samples 1 2 (10 ∷ 11 ∷ []))
-    × (plane (described u8 1 2 1 2 1 1 1) (0 ∷ 2 ∷ 0 ∷ 3 ∷ []) four 0 0 0 1 ≡ refused (2 ∷ []))
+    (region (described u8 1 2 1 2 1 1 1) (0 ∷ 2 ∷ 0 ∷ 3 ∷ []) four (coordinate 0 0 0 1) (rect 0 0 2 1) ≡ samples 1 2 (10 ∷ 11 ∷ []))
+    × (plane (described u8 1 2 1 2 1 1 1) (0 ∷ 2 ∷ 0 ∷ 3 ∷ []) four (coordinate 0 0 0 1) ≡ refused (2 ∷ []))
     -- the size first, although there is no such page; then the page; then the strips, and not the oversized picture
-    × (region (described u8 1 2 1 (2 ^ 33) 1 1 1) (0 ∷ 2 ^ 33 ∷ []) four 0 0 0 1 (rect 0 0 (2 ^ 33) 1) ≡ refused (4 ∷ 2 ^ 33 ∷ 4294967296 ∷ []))
-    × (region (described u8 1 2 1 (2 ^ 33) 1 1 1) (0 ∷ 2 ^ 33 ∷ []) four 0 0 0 1 (rect 0 0 1 1) ≡ refused (6 ∷ 0 ∷ 0 ∷ 0 ∷ 1 ∷ []))
-    × (region (described u8 1 2 1 (2 ^ 33) 1 1 1) (0 ∷ 2 ^ 33 ∷ 5 ∷ 3 ∷ []) four 0 0 0 1 (rect 0 0 1 1) ≡ refused (2 ∷ []))
-    × (region (described u8 1 2 1 (2 ^ 33) 1 1 1) (0 ∷ 2 ^ 33 ∷ 0 ∷ 3 ∷ []) four 0 0 0 1 (rect 2 0 1 1) ≡ samples 1 1 (12 ∷ []))
+    × (region (described u8 1 2 1 (2 ^ 33) 1 1 1) (0 ∷ 2 ^ 33 ∷ []) four (coordinate 0 0 0 1) (rect 0 0 (2 ^ 33) 1) ≡ refused (4 ∷ 2 ^ 33 ∷ 4294967296 ∷ []))
+    × (region (described u8 1 2 1 (2 ^ 33) 1 1 1) (0 ∷ 2 ^ 33 ∷ []) four (coordinate 0 0 0 1) (rect 0 0 1 1) ≡ refused (6 ∷ 0 ∷ 0 ∷ 0 ∷ 1 ∷ []))
+    × (region (described u8 1 2 1 (2 ^ 33) 1 1 1) (0 ∷ 2 ^ 33 ∷ 5 ∷ 3 ∷ []) four (coordinate 0 0 0 1) (rect 0 0 1 1) ≡ refused (2 ∷ []))
+    × (region (described u8 1 2 1 (2 ^ 33) 1 1 1) (0 ∷ 2 ^ 33 ∷ 0 ∷ 3 ∷ []) four (coordinate 0 0 0 1) (rect 2 0 1 1) ≡ samples 1 1 (12 ∷ []))
     -- a test over no page says yes
-    × (region (described u8 1 1 (2 ^ 64 - 1) 5 1 0 3) (0 ∷ 5 ∷ 0 ∷ 5 ∷ 9 ∷ 5 ∷ []) four 0 0 0 0 (rect 0 0 1 1) ≡ refused (2 ∷ []))
-    × (region (described u8 1 1 (2 ^ 64 - 1) 5 1 0 2) (0 ∷ 4 ∷ 1 ∷ 3 ∷ []) four 0 0 0 0 (rect 0 1 2 1) ≡ samples 1 2 (12 ∷ 13 ∷ []))
+    × (region (described u8 1 1 (2 ^ 64 - 1) 5 1 0 3) (0 ∷ 5 ∷ 0 ∷ 5 ∷ 9 ∷ 5 ∷ []) four (coordinate 0 0 0 0) (rect 0 0 1 1) ≡ refused (2 ∷ []))
+    × (region (described u8 1 1 (2 ^ 64 - 1) 5 1 0 2) (0 ∷ 4 ∷ 1 ∷ 3 ∷ []) four (coordinate 0 0 0 0) (rect 0 1 2 1) ≡ samples 1 2 (12 ∷ 13 ∷ []))
     -- where the test says no, plane's checks decide there too
-    × (region (described u8 1 2 1 2 1 1 1) (0 ∷ 3 ∷ 0 ∷ 3 ∷ []) four 0 0 0 1 (rect 0 0 2 1) ≡ refused (2 ∷ []))
+    × (region (described u8 1 2 1 2 1 1 1) (0 ∷ 3 ∷ 0 ∷ 3 ∷ []) four (coordinate 0 0 0 1) (rect 0 0 2 1) ≡ refused (2 ∷ []))
     -- z past the depth of a scene may still be a page of the test
-    × (region (described u8 1 2 1 2 2 1 1) (0 ∷ 2 ∷ 0 ∷ 3 ∷ []) four 0 0 0 1 (rect 0 0 2 1) ≡ refused (2 ∷ []))
-unfolding plane region coordinate coordinates rectangle planeStrips regionStrips windowStrips wholeRows wholePages wholeChannels wholeChannel wholeStrips rowsIn pictureSize unlimitedSize word channelStrips pageOf inside total samplesIn channelPicture window span picture bytes stored place each bind
+    × (region (described u8 1 2 1 2 2 1 1) (0 ∷ 2 ∷ 0 ∷ 3 ∷ []) four (coordinate 0 0 0 1) (rect 0 0 2 1) ≡ refused (2 ∷ []))
+unfolding plane planeFrom region regionFrom sceneThere coordinateThere coordinates rectangle planeStrips inTurn regionStrips rowStrips windowStrips wholeRows wholePages wholeChannels wholeChannel wholeStrips rowsIn pictureSize unlimitedSize word channelStrips pageOf inside total samplesIn channelPicture window span picture bytes stored place each bind
 past-the-test = (refl, refl, refl, refl, refl, refl, refl, refl, refl, refl)
 
 -- "an outcome that they leave free is named": a sample that is not in the joined strips
 missing-sample :
     -- the least input: one sample, a strip of no bytes
-    (region (described u8 1 1 1 1 1 0 1) (0 ∷ 0 ∷ []) four 0 0 0 0 (rect 0 0 1 1) ≡ refused (2 ∷ []))
+    (region (described u8 1 1 1 1 1 0 1) (0 ∷ 0 ∷ []) four (coordinate 0 0 0 0) (rect 0 0 1 1) ≡ refused (2 ∷ []))
     -- three bytes of a picture of two by two: the last sample is missing, and the others are there
-    × (region (described u8 1 2 2 2 1 1 1) (0 ∷ 4 ∷ 1 ∷ 3 ∷ []) four 0 0 0 1 (rect 1 1 1 1) ≡ refused (2 ∷ []))
-    × (region (described u8 1 2 2 2 1 1 1) (0 ∷ 4 ∷ 1 ∷ 3 ∷ []) four 0 0 0 1 (rect 0 1 1 1) ≡ samples 1 1 (13 ∷ []))
-    × (region (described u8 1 2 2 2 1 1 1) (0 ∷ 4 ∷ 1 ∷ 3 ∷ []) four 0 0 0 1 (rect 1 0 1 1) ≡ samples 1 1 (12 ∷ []))
+    × (region (described u8 1 2 2 2 1 1 1) (0 ∷ 4 ∷ 1 ∷ 3 ∷ []) four (coordinate 0 0 0 1) (rect 1 1 1 1) ≡ refused (2 ∷ []))
+    × (region (described u8 1 2 2 2 1 1 1) (0 ∷ 4 ∷ 1 ∷ 3 ∷ []) four (coordinate 0 0 0 1) (rect 0 1 1 1) ≡ samples 1 1 (13 ∷ []))
+    × (region (described u8 1 2 2 2 1 1 1) (0 ∷ 4 ∷ 1 ∷ 3 ∷ []) four (coordinate 0 0 0 1) (rect 1 0 1 1) ≡ samples 1 1 (12 ∷ []))
     -- half a sample isn't one
-    × (region (described u16 1 1 1 2 1 0 1) (0 ∷ 3 ∷ []) four 0 0 0 0 (rect 1 0 1 1) ≡ refused (2 ∷ []))
-unfolding region coordinate coordinates rectangle planeStrips regionStrips windowStrips wholeRows wholePages wholeChannels wholeChannel wholeStrips rowsIn pictureSize unlimitedSize word channelStrips pageOf inside total samplesIn channelPicture window span picture bytes stored place each bind
+    × (region (described u16 1 1 1 2 1 0 1) (0 ∷ 3 ∷ []) four (coordinate 0 0 0 0) (rect 1 0 1 1) ≡ refused (2 ∷ []))
+unfolding region regionFrom sceneThere coordinateThere coordinates rectangle planeStrips inTurn regionStrips rowStrips windowStrips wholeRows wholePages wholeChannels wholeChannel wholeStrips rowsIn pictureSize unlimitedSize word channelStrips pageOf inside total samplesIn channelPicture window span picture bytes stored place each bind
 missing-sample = (refl, refl, refl, refl, refl)
 
 -- ---- another input of docs/DIFFERENCES.md
 
 rows-past-64-bits :
     -- a channel's rows that pass 64 bits: the whole-row test says no
-    region (single u8 (2 ^ 33) 1 2) (0 ∷ (2 ^ 64 - 1) ∷ 0 ∷ (2 ^ 33 + 1) ∷ []) four 0 0 0 0 (rect 0 0 1 1) ≡ refused (4 ∷ 8589934592 ∷ 4294967296 ∷ [])
-unfolding region coordinate coordinates rectangle planeStrips regionStrips windowStrips wholeRows wholePages wholeChannels wholeChannel wholeStrips rowsIn pictureSize unlimitedSize word channelStrips pageOf inside total samplesIn channelPicture window span picture bytes stored place each bind
+    region (single u8 (2 ^ 33) 1 2) (0 ∷ (2 ^ 64 - 1) ∷ 0 ∷ (2 ^ 33 + 1) ∷ []) four (coordinate 0 0 0 0) (rect 0 0 1 1) ≡ refused (4 ∷ 8589934592 ∷ 4294967296 ∷ [])
+unfolding region regionFrom sceneThere coordinateThere coordinates rectangle planeStrips inTurn regionStrips rowStrips windowStrips wholeRows wholePages wholeChannels wholeChannel wholeStrips rowsIn pictureSize unlimitedSize word channelStrips pageOf inside total samplesIn channelPicture window span picture bytes stored place each bind
 rows-past-64-bits = refl

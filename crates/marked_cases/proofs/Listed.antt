@@ -13,14 +13,14 @@ use Rattle.lsm_format.specs.Ranges.{over, inFile, flat, Inside}
 use Rattle.lsm_format.specs.Words.{word}
 use Rattle.lsm_format.specs.Numbers.{partAt, numberAt, i32At, signed32}
 use Rattle.lsm_format.specs.Sizes.{pictureSize, unlimitedSize}
-use Rattle.lsm_format.specs.Rectangle.{Rect, coordinates, rectangle}
+use Rattle.lsm_format.specs.Rectangle.{Rect, coordinate, coordinates, rectangle}
 use Rattle.lsm_format.specs.Scenes.{layout, scenes, pagesExpected, pageOf}
 use Rattle.lsm_format.specs.Lent.{lend, filled}
 use Rattle.lsm_format.specs.CzInfo.{czInfo, header, extents, voxels, channelBlock, shots, czRanges}
 use Rattle.lsm_format.specs.Channels.{channelsRanges, channelRanges}
 use Rattle.lsm_format.specs.Directory.{directory, entries, entry, scalar, scalarPlace, array, arrayPlace, numbers, valuePlace, typeSize, integerSize, entryRanges, entriesRanges, directoryRanges}
 use Rattle.lsm_format.specs.Open.{openFile, openMemory, read, tiffHeader, walk, chain, join, describeWalk, agreement, layoutFor, describe, chainRanges, walkRanges, openRanges}
-use Rattle.lsm_format.specs.Picture.{total, place, stored, inside, span, bytes, picture, each, window, channelStrips, coordinate, planeStrips, channelPicture, samplesIn, plane, wholeStrips, rowsIn, wholeChannel, wholeChannels, wholePages, wholeRows, windowStrips, regionStrips}
+use Rattle.lsm_format.specs.Picture.{total, place, stored, inside, span, bytes, picture, each, window, channelStrips, sceneThere, coordinateThere, planeStrips, inTurn, channelPicture, samplesIn, plane, planeFrom, wholeStrips, rowsIn, wholeChannel, wholeChannels, wholePages, wholeRows, rowStrips, windowStrips, regionStrips, regionFrom}
 use Rattle.lsm_format.specs.Listed.{stripsRanges, listed, spanRanges, sampleRanges, windowRanges, regionRanges, listedFor}
 use Rattle.lsm_overwrite.specs.Blind.{Overwritten, Held, Blind, BlindFor}
 use Rattle.lsm_overwrite.proofs.Blind.{blind, blind-rectangle, overwrite}
@@ -48,17 +48,17 @@ unfolding listed stripsRanges channelsRanges channelRanges openRanges read descr
 all-lists = refl
 
 -- "of the strips only the places of its samples in the channel's joined strips": "byte 117", and not 116
-second-lists : flat (listedFor G 0 0 0 0 second) ≡ G-open ++ (117, 1) ∷ []
-unfolding listedFor regionRanges windowRanges sampleRanges spanRanges place coordinate coordinates rectangle regionStrips wholeRows wholePages wholeChannels wholeChannel wholeStrips rowsIn windowStrips total pictureSize unlimitedSize channelStrips pageOf inside openRanges read describeWalk agreement layoutFor describe czInfo extents voxels channelBlock shots layout scenes pagesExpected word walkRanges chainRanges directoryRanges entriesRanges entryRanges czRanges over inFile flat tiffHeader walk chain join directory entries entry scalar scalarPlace array arrayPlace numbers valuePlace typeSize integerSize header i32At signed32 numberAt partAt bind
+second-lists : flat (listedFor G (coordinate 0 0 0 0) second) ≡ G-open ++ (117, 1) ∷ []
+unfolding listedFor regionRanges regionFrom windowRanges sampleRanges spanRanges place sceneThere coordinateThere coordinates rectangle regionStrips wholeRows wholePages wholeChannels wholeChannel wholeStrips rowsIn rowStrips windowStrips total pictureSize unlimitedSize channelStrips pageOf inside openRanges read describeWalk agreement layoutFor describe czInfo extents voxels channelBlock shots layout scenes pagesExpected word walkRanges chainRanges directoryRanges entriesRanges entryRanges czRanges over inFile flat tiffHeader walk chain join directory entries entry scalar scalarPlace array arrayPlace numbers valuePlace typeSize integerSize header i32At signed32 numberAt partAt bind
 second-lists = refl
 
 -- "none if it isn't accepted": a rectangle that passes the picture; and none of an empty one
-passing-lists : flat (listedFor G 0 0 0 0 (record { x = 1; y = 0; w = 2; h = 1 })) ≡ G-open
-unfolding listedFor regionRanges windowRanges sampleRanges spanRanges place coordinate coordinates rectangle regionStrips wholeRows wholePages wholeChannels wholeChannel wholeStrips rowsIn windowStrips total pictureSize unlimitedSize channelStrips pageOf inside openRanges read describeWalk agreement layoutFor describe czInfo extents voxels channelBlock shots layout scenes pagesExpected word walkRanges chainRanges directoryRanges entriesRanges entryRanges czRanges over inFile flat tiffHeader walk chain join directory entries entry scalar scalarPlace array arrayPlace numbers valuePlace typeSize integerSize header i32At signed32 numberAt partAt bind
+passing-lists : flat (listedFor G (coordinate 0 0 0 0) (record { x = 1; y = 0; w = 2; h = 1 })) ≡ G-open
+unfolding listedFor regionRanges regionFrom windowRanges sampleRanges spanRanges place sceneThere coordinateThere coordinates rectangle regionStrips wholeRows wholePages wholeChannels wholeChannel wholeStrips rowsIn rowStrips windowStrips total pictureSize unlimitedSize channelStrips pageOf inside openRanges read describeWalk agreement layoutFor describe czInfo extents voxels channelBlock shots layout scenes pagesExpected word walkRanges chainRanges directoryRanges entriesRanges entryRanges czRanges over inFile flat tiffHeader walk chain join directory entries entry scalar scalarPlace array arrayPlace numbers valuePlace typeSize integerSize header i32At signed32 numberAt partAt bind
 passing-lists = refl
 
-empty-lists : flat (listedFor G 0 0 0 0 (record { x = 1; y = 0; w = 0; h = 1 })) ≡ G-open
-unfolding listedFor regionRanges windowRanges sampleRanges spanRanges place coordinate coordinates rectangle regionStrips wholeRows wholePages wholeChannels wholeChannel wholeStrips rowsIn windowStrips total pictureSize unlimitedSize channelStrips pageOf inside openRanges read describeWalk agreement layoutFor describe czInfo extents voxels channelBlock shots layout scenes pagesExpected word walkRanges chainRanges directoryRanges entriesRanges entryRanges czRanges over inFile flat tiffHeader walk chain join directory entries entry scalar scalarPlace array arrayPlace numbers valuePlace typeSize integerSize header i32At signed32 numberAt partAt bind
+empty-lists : flat (listedFor G (coordinate 0 0 0 0) (record { x = 1; y = 0; w = 0; h = 1 })) ≡ G-open
+unfolding listedFor regionRanges regionFrom windowRanges sampleRanges spanRanges place sceneThere coordinateThere coordinates rectangle regionStrips wholeRows wholePages wholeChannels wholeChannel wholeStrips rowsIn rowStrips windowStrips total pictureSize unlimitedSize channelStrips pageOf inside openRanges read describeWalk agreement layoutFor describe czInfo extents voxels channelBlock shots layout scenes pagesExpected word walkRanges chainRanges directoryRanges entriesRanges entryRanges czRanges over inFile flat tiffHeader walk chain join directory entries entry scalar scalarPlace array arrayPlace numbers valuePlace typeSize integerSize header i32At signed32 numberAt partAt bind
 empty-lists = refl
 
 -- ---- on the list or not
@@ -90,11 +90,11 @@ spare-86 : Blind G (set G 86 8)
 unfolding covers
 spare-86 = blind G (set G 86 8) (overwrite (listed G) G 86 8 (rw all-lists (spare (G-open ++ (116, 2) ∷ []) 86 refl)))
 
-spare-116 : BlindFor G G-eight 0 0 0 0 second
+spare-116 : BlindFor G G-eight (coordinate 0 0 0 0) second
 unfolding covers
 spare-116 =
-    blind-rectangle G G-eight 0 0 0 0 second
-    (overwrite (listedFor G 0 0 0 0 second) G 116 8 (rw second-lists (spare (G-open ++ (117, 1) ∷ []) 116 refl)))
+    blind-rectangle G G-eight (coordinate 0 0 0 0) second
+    (overwrite (listedFor G (coordinate 0 0 0 0) second) G 116 8 (rw second-lists (spare (G-open ++ (117, 1) ∷ []) 116 refl)))
 
 -- ---- with a shorter list the statement would be false
 
@@ -108,9 +108,9 @@ held-eight = record { lent = 0 ∷ 0 ∷ []; opened = G-opened; gave = refl }
 
 -- the samples of plane tell G from G with another first sample
 differ : Blind G G-eight → ⊥
-unfolding held held-eight openMemory filled plane planeStrips total samplesIn channelPicture each picture stored place span bytes window coordinate coordinates pictureSize unlimitedSize channelStrips pageOf inside openFile lend read describeWalk agreement layoutFor describe czInfo extents voxels channelBlock shots layout scenes pagesExpected word tiffHeader walk chain join directory entries entry scalar scalarPlace array arrayPlace numbers valuePlace typeSize integerSize header i32At signed32 numberAt partAt bind
+unfolding held held-eight openMemory filled plane planeFrom planeStrips inTurn total samplesIn channelPicture each picture stored place span bytes window sceneThere coordinateThere coordinates pictureSize unlimitedSize channelStrips pageOf inside openFile lend read describeWalk agreement layoutFor describe czInfo extents voxels channelBlock shots layout scenes pagesExpected word tiffHeader walk chain join directory entries entry scalar scalarPlace array arrayPlace numbers valuePlace typeSize integerSize header i32At signed32 numberAt partAt bind
 differ b =
-    let e : _≡_ {A = List ℕ} (8 ∷ 9 ∷ []) (7 ∷ 9 ∷ []) = b .planeLeaves held held-eight 0 0 0 0 (0 ∷ 0 ∷ []) in
+    let e : _≡_ {A = List ℕ} (8 ∷ 9 ∷ []) (7 ∷ 9 ∷ []) = b .planeLeaves held held-eight (coordinate 0 0 0 0) (0 ∷ 0 ∷ []) in
     let n : _≡_ {A = ℕ} 8 7 = cc in
     omega arith
 
@@ -120,7 +120,7 @@ unfolding covers
 strips-listed h = differ (h G G-eight (overwrite (openRanges G) G 116 8 (rw opening-lists (spare G-open 116 refl))))
 
 -- with a rectangle's samples alone
-samples-listed : ((f g : List ℕ) → Overwritten (listedFor f 0 0 0 0 second) f g → Blind f g) → ⊥
+samples-listed : ((f g : List ℕ) → Overwritten (listedFor f (coordinate 0 0 0 0) second) f g → Blind f g) → ⊥
 unfolding covers
 samples-listed h =
-    differ (h G G-eight (overwrite (listedFor G 0 0 0 0 second) G 116 8 (rw second-lists (spare (G-open ++ (117, 1) ∷ []) 116 refl))))
+    differ (h G G-eight (overwrite (listedFor G (coordinate 0 0 0 0) second) G 116 8 (rw second-lists (spare (G-open ++ (117, 1) ∷ []) 116 refl))))

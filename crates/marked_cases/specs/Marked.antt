@@ -10,7 +10,7 @@ use lib.Ieee.{fin}
 use Rattle.lsm_format.specs.Answer.{Result, accepted, refused, bind}
 use Rattle.lsm_format.specs.Numbers.{little}
 use Rattle.lsm_format.specs.Sizes.{u8}
-use Rattle.lsm_format.specs.Rectangle.{Dims}
+use Rattle.lsm_format.specs.Rectangle.{Dims, coordinate}
 use Rattle.lsm_format.specs.Open.{Opened, openFile}
 use Rattle.lsm_format.specs.Picture.{Samples, plane, region}
 use Rattle.lsm_format.specs.Utf8.{lossy}
@@ -70,10 +70,10 @@ G-strip n = record { description = G-opened .description; visited = 1; table = 1
 
 -- What plane and region answer, with the description and the table that opening gave.
 abbrev pub G-plane : List ℕ → Result Samples
-G-plane f = bind (openFile f 2) (λ x. plane (x .description) (x .table) f 0 0 0 0)
+G-plane f = bind (openFile f 2) (λ x. plane (x .description) (x .table) f (coordinate 0 0 0 0))
 
 abbrev pub G-region : List ℕ → ℕ → ℕ → ℕ → ℕ → Result Samples
-G-region f x y w h = bind (openFile f 2) (λ o. region (o .description) (o .table) f 0 0 0 0 (record { x = x; y = y; w = w; h = h }))
+G-region f x y w h = bind (openFile f 2) (λ o. region (o .description) (o .table) f (coordinate 0 0 0 0) (record { x = x; y = y; w = w; h = h }))
 
 -- ---- the table
 

@@ -1,5 +1,5 @@
 use mathlib.Core.Path.{sym, ap, _∙_}
-use Rattle.lsm_format.specs.Rectangle.{region}
+use Rattle.lsm_format.specs.Rectangle.{inPicture}
 use Rattle.lsm_format.specs.Code.{checkOf}
 use Rattle.lsm_format.specs.Answer.{bind}
 use borrow.Author.Needs.{needs}
@@ -19,11 +19,11 @@ enum-known-r : tie.Need-enum-known-r
 enum-known-r c = search needs
 
 returns : tie.Need-returns
-unfolding region bind
+unfolding inPicture bind
 returns c = rw (sym (c .before .before .before .checked-coordinates .ensures) ∙ ap checkOf (c .before .enum-told .given .1)) (c .checked-rectangle .ensures)
 
 returns-2 : tie.Need-returns-2
-unfolding region bind
+unfolding inPicture bind
 returns-2 c = rw (sym (c .before .before .before .checked-coordinates .ensures) ∙ ap checkOf (c .before .r .given .1))
 
 pub checked-region-spec : {M : Type 1} → statement M

@@ -7,7 +7,7 @@ use Rattle.lsm_positions.proofs.LsmLayout.page_index.Statement.{stateme
 use Rattle.lsm_positions.proofs.LsmLayout.page_index.Tie as tie
 
 returns : tie.Need-returns
-returns c = page-outside _ _ _ (c .if1 .taken)
+returns c = λ t k. page-outside _ _ (c .if1 .taken)
 
 checked-mul-requires : tie.Need-checked-mul-requires
 checked-mul-requires c κs = search needs
@@ -19,7 +19,7 @@ enum-told : tie.Need-enum-told
 enum-told c = search needs
 
 returns-2 : tie.Need-returns-2
-returns-2 c = page-over _ _ _ (c .before .before .before .if1 .left) (told-overflow _ (c .before .before .checked-mul .ensures) (c .enum-told .given .1))
+returns-2 c = λ t k. page-over _ _ (c .before .before .before .if1 .left) (told-overflow _ (c .before .before .checked-mul .ensures) (c .enum-told .given .1))
 
 checked-add-requires : tie.Need-checked-add-requires
 checked-add-requires c κs = search needs
@@ -34,13 +34,13 @@ returns-3 : tie.Need-returns-3
 returns-3 c =
     let a = c .before .before .before in
     let m = a .before .before .before .before in
-    sym (told-value _ (a .checked-add .ensures) (c .before .page .given .1)) ∙ page-at _ _ _ (m .before .if1 .left) _ (told-value _ (m .checked-mul .ensures) (a .before .before .first .given .1))
+    λ t k. sym (told-value _ (a .checked-add .ensures) (c .before .page .given .1)) ∙ page-at _ _ (m .before .if1 .left) _ (told-value _ (m .checked-mul .ensures) (a .before .before .first .given .1))
 
 returns-4 : tie.Need-returns-4
 returns-4 c =
     let a = c .before .before in
     let m = a .before .before .before .before in
-    sym (told-overflow _ (a .checked-add .ensures) (c .enum-told2 .given .1)) ∙ page-at _ _ _ (m .before .if1 .left) _ (told-value _ (m .checked-mul .ensures) (a .before .before .first .given .1))
+    λ t k. sym (told-overflow _ (a .checked-add .ensures) (c .enum-told2 .given .1)) ∙ page-at _ _ (m .before .if1 .left) _ (told-value _ (m .checked-mul .ensures) (a .before .before .first .given .1))
 
 pub page-index-spec : {M : Type 1} → statement M
 page-index-spec =

@@ -21,10 +21,10 @@ enum-known-missing c = search needs
 returns : tie.Need-returns
 returns c =
     let k = c .before in
-    c .checked-coordinates .ensures ∙ place-there _ _ _ _ _ _ (sym (k .before .before .checked-scene .ensures) ∙ ap checkOf (k .enum-told .given .1))
+    c .checked-coordinates .ensures ∙ place-there _ _ _ (sym (k .before .before .checked-scene .ensures) ∙ ap checkOf (k .enum-told .given .1))
 
 returns-2 : tie.Need-returns-2
-returns-2 c = place-missing _ _ _ _ _ _ (sym (c .before .before .before .checked-scene .ensures) ∙ ap checkOf (c .before .missing .given .1))
+returns-2 c = place-missing _ _ _ (sym (c .before .before .before .checked-scene .ensures) ∙ ap checkOf (c .before .missing .given .1))
 
 pub checked-place-spec : {M : Type 1} → statement M
 checked-place-spec =

@@ -26,7 +26,7 @@ returns c = search needs
 returns-2 : tie.Need-returns-2
 returns-2 c =
     let g = c .before .before .before in
-    strips-oversized _ _ _ _ _ _ _ _ (sym (g .checked-plane-bytes .ensures) ∙ ap bytesOf (c .before .oversized .given .1))
+    strips-oversized _ _ _ _ _ (sym (g .checked-plane-bytes .ensures) ∙ ap bytesOf (c .before .oversized .given .1))
 
 pub plane-strips-spec : {M : Type 1} → statement M
 plane-strips-spec =

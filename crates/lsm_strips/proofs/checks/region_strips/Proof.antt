@@ -38,7 +38,7 @@ returns c =
     let k = p .before in
     let s = k .before .before .before .before .before .before in
     c .sized-strips .ensures
-    ∙ sym (region-plane _ _ _ _ _ _ _ _ (s .pre .1 .across) (s .pre .1 .down) (s .pre .1 .rows) _ (sized k) (s .pre .0) (past-not _ _ _ (sym (p .past-test .ensures) ∙ not-true _ (c .before .if1 .taken))))
+    ∙ sym (region-plane _ _ _ _ _ (s .pre .1 .across) (s .pre .1 .down) (s .pre .1 .rows) _ (sized k) (s .pre .0) (past-not _ _ (sym (p .past-test .ensures) ∙ not-true _ (c .before .if1 .taken))))
 
 whole-rows-requires : tie.Need-whole-rows-requires
 whole-rows-requires c κs = search needs
@@ -65,18 +65,18 @@ window-strips-requires-2 c κs =
     (s .pre .0, (s .pre .1, sym (c .before .whole-rows2 .ensures) ∙ c .if3 .taken))
 
 returns-2 : tie.Need-returns-2
-returns-2 c = c .window-strips .ensures ∙ region-whole _ _ _ _ _ _ _ _ (sym (c .before .before .whole-rows .ensures) ∙ c .before .if2 .taken)
+returns-2 c = c .window-strips .ensures ∙ region-whole _ _ _ _ _ (sym (c .before .before .whole-rows .ensures) ∙ c .before .if2 .taken)
 
 returns-3 : tie.Need-returns-3
-returns-3 c = c .sized-strips2 .ensures ∙ region-broken _ _ _ _ _ _ _ _ (sym (c .before .before .whole-rows .ensures) ∙ c .before .if2 .left)
+returns-3 c = c .sized-strips2 .ensures ∙ region-broken _ _ _ _ _ (sym (c .before .before .whole-rows .ensures) ∙ c .before .if2 .left)
 
 returns-4 : tie.Need-returns-4
-returns-4 c = c .window-strips2 .ensures ∙ region-whole _ _ _ _ _ _ _ _ (sym (c .before .before .whole-rows2 .ensures) ∙ c .before .if3 .taken)
+returns-4 c = c .window-strips2 .ensures ∙ region-whole _ _ _ _ _ (sym (c .before .before .whole-rows2 .ensures) ∙ c .before .if3 .taken)
 
 returns-5 : tie.Need-returns-5
 returns-5 c =
     let g = c .before .before .before .before .before in
-    region-oversized _ _ _ _ _ _ _ _ _ (sym (g .checked-plane-bytes .ensures) ∙ ap bytesOf (c .before .before .before .r .given .1)) (sym (c .before .whole-rows2 .ensures) ∙ c .if3 .left)
+    region-oversized _ _ _ _ _ _ (sym (g .checked-plane-bytes .ensures) ∙ ap bytesOf (c .before .before .before .r .given .1)) (sym (c .before .whole-rows2 .ensures) ∙ c .if3 .left)
 
 pub region-strips-spec : {M : Type 1} → statement M
 region-strips-spec =

@@ -20,10 +20,10 @@ enum-known-r c = search needs
 
 returns : tie.Need-returns
 returns c =
-    c .row-strips .ensures ∙ window-by-rows _ _ _ _ _ _ _ _ _ (sym (c .before .before .before .checked-plane-bytes .ensures) ∙ ap bytesOf (c .before .enum-told .given .1))
+    c .row-strips .ensures ∙ window-by-rows _ _ _ _ _ _ (sym (c .before .before .before .checked-plane-bytes .ensures) ∙ ap bytesOf (c .before .enum-told .given .1))
 
 returns-2 : tie.Need-returns-2
-returns-2 c = window-over _ _ _ _ _ _ _ _ _ (sym (c .before .before .before .checked-plane-bytes .ensures) ∙ ap bytesOf (c .before .r .given .1))
+returns-2 c = window-over _ _ _ _ _ _ (sym (c .before .before .before .checked-plane-bytes .ensures) ∙ ap bytesOf (c .before .r .given .1))
 
 pub window-strips-spec : {M : Type 1} → statement M
 window-strips-spec =

@@ -6,6 +6,7 @@ use native.Mathlib.Omega.{arith}
 use mathlib.Core.Path.{_≡_, sym, ap, _∙_}
 use mathlib.Core.Option.{some}
 use Rattle.lsm_format.specs.Answer.{accepted}
+use Rattle.lsm_format.specs.Code.{coordinateOf}
 use Rattle.lsm_format.specs.Words.{word}
 use Rattle.lsm_format.specs.Picture.{stripsPerPage}
 use Rattle.lsm_format.proofs.Words.{told-value, told-overflow}
@@ -13,18 +14,22 @@ use Rattle.lsm_format.proofs.Picture.{channel-nowhere, channel-missing, channel
 use Rattle.lsm_format.specs.Scenes.{pageOf}
 use Rattle.lsm_positions.specs.Code.{indexOf, layoutOf}
 use Rattle.lsm_description.specs.Code.{descriptionOf}
-use Rattle.lsm_strips.proofs.Judging.{page-is, first-is, page-room, channel-part, page-over}
+use Rattle.lsm_strips.proofs.Judging.{page-is, strips-are, page-room, channel-part, page-over}
+
+-- what the function starts with, and its page, seen from its last test
+abbrev start : tie.After-has-page → tie.Start
+start c = c .before .before .before .before .before .before .before .before .before .before .before
+
+abbrev page : tie.After-has-page → tie.After-page
+page c = c .before .before .before .before .before .before
 
 -- the strips of a page don't overflow
-strips-told : (c : tie.After-has-page)
-    → word (stripsPerPage (descriptionOf (c .before .before .before .before .before .before .before .before .before .before .before .args .d))) ≡ some (c .before .before .strips .given .0 .0)
+strips-told : (c : tie.After-has-page) → word (stripsPerPage (descriptionOf (start c .args .d))) ≡ some (c .before .before .strips .given .0 .0)
 strips-told c = told-value _ (c .before .before .before .before .checked-mul .ensures) (c .before .before .strips .given .1)
 
 page-told : (c : tie.After-has-page)
-    → pageOf (layoutOf (c .before .before .before .before .before .before .before .before .before .before .before .args .d .layout)) (c .before .before .before .before .before .before .before .before .before .before .before .args .scene) (c .before .before .before .before .before .before .before .before .before .before .before .args .z) ≡ some (c .before .before .before .before .before .before .page .given .0 .0)
-page-told c =
-    let p = c .before .before .before .before .before .before in
-    sym (p .before .before .page-index .ensures) ∙ ap indexOf (p .page .given .1)
+    → pageOf (layoutOf (start c .args .d .layout)) (coordinateOf (start c .args .co)) ≡ some (page c .page .given .0 .0)
+page-told c = sym (page c .before .before .page-index .ensures _ _) ∙ ap indexOf (page c .page .given .1)
 
 page-index-requires : tie.Need-page-index-requires
 page-index-requires c κs = search needs
@@ -36,7 +41,7 @@ enum-told : tie.Need-enum-told
 enum-told c = search needs
 
 returns : tie.Need-returns
-returns c = channel-nowhere _ _ _ _ _ _ (sym (c .before .before .page-index .ensures) ∙ ap indexOf (c .enum-told .given .1))
+returns c = channel-nowhere _ _ _ (sym (c .before .before .page-index .ensures _ _) ∙ ap indexOf (c .enum-told .given .1))
 
 checked-mul-requires : tie.Need-checked-mul-requires
 checked-mul-requires c κs = search needs
@@ -52,41 +57,40 @@ returns-2 c =
     let m = c .before .before in
     let p = m .before .before in
     let a = p .before .before .before .before .before .args in
-    channel-missing _ _ _ _ _ _ _ (sym (p .before .before .page-index .ensures) ∙ ap indexOf (p .page .given .1))
+    channel-missing _ _ _ _ (sym (p .before .before .page-index .ensures _ _) ∙ ap indexOf (p .page .given .1))
     (page-over (descriptionOf (a .d)) (a .words) _ (omega arith) (told-overflow _ (m .checked-mul .ensures) (c .enum-told2 .given .1)))
 
 has-page-requires : tie.Need-has-page-requires
 has-page-requires c κs = search needs
 
+mul-t15 : tie.Need-mul-t15
+mul-t15 c =
+    let h = c .before in
+    omega (arith, page-room (descriptionOf (start h .args .d)) _ _ _ (strips-told h) (sym (h .has-page .ensures) ∙ c .if1 .taken))
+
 mul-t16 : tie.Need-mul-t16
 mul-t16 c =
     let h = c .before in
-    let a = h .before .before .before .before .before .before .before .before .before .before .before in
-    omega (arith, page-room (descriptionOf (a .args .d)) _ _ _ (strips-told h) (sym (h .has-page .ensures) ∙ c .if1 .taken))
+    let d = descriptionOf (start h .args .d) in
+    omega (arith, page-room d _ _ _ (strips-told h) (sym (h .has-page .ensures) ∙ c .if1 .taken), channel-part d (start h .args .words) 0 _ (strips-told h) (start h .args .co .c) (start h .pre))
 
-mul-t17 : tie.Need-mul-t17
-mul-t17 c =
-    let h = c .before .before in
-    let a = h .before .before .before .before .before .before .before .before .before .before .before in
-    omega (arith, page-room (descriptionOf (a .args .d)) _ _ _ (strips-told h) (sym (h .has-page .ensures) ∙ c .before .if1 .taken), channel-part (descriptionOf (a .args .d)) (a .args .words) 0 _ (strips-told h) (a .args .c) (a .pre))
-
-add-t18 : tie.Need-add-t18
-add-t18 c =
-    let h = c .before .before in
-    let a = h .before .before .before .before .before .before .before .before .before .before .before in
-    omega (arith, page-room (descriptionOf (a .args .d)) _ _ _ (strips-told h) (sym (h .has-page .ensures) ∙ c .before .if1 .taken), channel-part (descriptionOf (a .args .d)) (a .args .words) 0 _ (strips-told h) (a .args .c) (a .pre))
+add-t17 : tie.Need-add-t17
+add-t17 c =
+    let h = c .before in
+    let d = descriptionOf (start h .args .d) in
+    omega (arith, page-room d _ _ _ (strips-told h) (sym (h .has-page .ensures) ∙ c .if1 .taken), channel-part d (start h .args .words) 0 _ (strips-told h) (start h .args .co .c) (start h .pre))
 
 returns-3 : tie.Need-returns-3
 returns-3 c =
-    let h = c .before .before in
-    let a = h .before .before .before .before .before .before .before .before .before .before .before in
-    ap accepted (first-is (descriptionOf (a .args .d)) 0 _ _ (strips-told h) _) ∙ channel-at _ _ _ _ _ _ _ (page-told h) (sym (page-is (descriptionOf (a .args .d)) _ _ _ (strips-told h)) ∙ sym (h .has-page .ensures) ∙ c .before .if1 .taken)
+    let h = c .before in
+    let d = descriptionOf (start h .args .d) in
+    ap accepted (strips-are d 0 _ _ (strips-told h) _) ∙ channel-at _ _ _ _ (page-told h) (sym (page-is d _ _ _ (strips-told h)) ∙ sym (h .has-page .ensures) ∙ c .if1 .taken)
 
 returns-4 : tie.Need-returns-4
 returns-4 c =
     let h = c .before in
-    let a = h .before .before .before .before .before .before .before .before .before .before .before in
-    channel-missing _ _ _ _ _ _ _ (page-told h) (sym (page-is (descriptionOf (a .args .d)) _ _ _ (strips-told h)) ∙ sym (h .has-page .ensures) ∙ c .if1 .left)
+    let a = start h in
+    channel-missing _ _ _ _ (page-told h) (sym (page-is (descriptionOf (a .args .d)) _ _ _ (strips-told h)) ∙ sym (h .has-page .ensures) ∙ c .if1 .left)
 
 pub channel-strips-spec : {M : Type 1} → statement M
 channel-strips-spec =
@@ -101,8 +105,8 @@ channel-strips-spec =
     enum-told-2
     returns-2
     has-page-requires
+    mul-t15
     mul-t16
-    mul-t17
-    add-t18
+    add-t17
     returns-3
     returns-4)

@@ -3,11 +3,12 @@ use borrow.Author.Needs.{needs}
 use Rattle.lsm_strips.proofs.pages.whole_rows.Statement.{statement}
 use Rattle.lsm_strips.proofs.pages.whole_rows.Tie as tie
 use native.Mathlib.Omega.{arith}
-use mathlib.Core.Path.{_≡_, _∙_}
+use mathlib.Core.Path.{_≡_, sym, ap, _∙_}
 use mathlib.Core.Option.{some}
 use Rattle.lsm_format.specs.Words.{word}
 use Rattle.lsm_format.specs.Picture.{rowBytes}
 use Rattle.lsm_format.proofs.Words.{told-value, told-overflow, word-some}
+use Rattle.lsm_positions.specs.Code.{pagesOf}
 use Rattle.lsm_description.specs.Code.{descriptionOf}
 use Rattle.lsm_strips.proofs.Judging.{whole-wide, whole-empty, whole-many, whole-by}
 
@@ -36,29 +37,29 @@ returns c =
 returns-2 : tie.Need-returns-2
 returns-2 c = whole-empty _ _ _ (row-told (c .before)) (c .if1 .taken)
 
-checked-mul-requires-2 : tie.Need-checked-mul-requires-2
-checked-mul-requires-2 c κs = search needs
+expected-pages-requires : tie.Need-expected-pages-requires
+expected-pages-requires c κs = search needs
 
 enum-known-pages : tie.Need-enum-known-pages
 enum-known-pages c = search needs
-
-enum-told-2 : tie.Need-enum-told-2
-enum-told-2 c = search needs
-
-returns-3 : tie.Need-returns-3
-returns-3 c =
-    let m = c .before .before in
-    whole-many _ _ _ (row-told (m .before .before)) (m .before .if1 .left) (told-overflow _ (m .checked-mul2 .ensures) (c .enum-told2 .given .1))
 
 whole-pages-requires : tie.Need-whole-pages-requires
 whole-pages-requires c κs =
     let i = c .before .before .before .before in
     (word-some _ _ (row-told (i .before)) .0, omega (arith, i .if1 .left))
 
+enum-told-2 : tie.Need-enum-told-2
+enum-told-2 c = search needs
+
+returns-3 : tie.Need-returns-3
+returns-3 c =
+    let m = c .before .before .before .before in
+    c .whole-pages .ensures ∙ whole-by _ _ _ (row-told (m .before .before)) (m .before .if1 .left) _ (sym (m .expected-pages .ensures) ∙ ap pagesOf (c .before .before .pages .given .1))
+
 returns-4 : tie.Need-returns-4
 returns-4 c =
-    let m = c .before .before .before .before in
-    c .whole-pages .ensures ∙ whole-by _ _ _ (row-told (m .before .before)) (m .before .if1 .left) _ (told-value _ (m .checked-mul2 .ensures) (c .before .before .pages .given .1))
+    let m = c .before .before in
+    whole-many _ _ _ (row-told (m .before .before)) (m .before .if1 .left) _ (sym (m .expected-pages .ensures) ∙ ap pagesOf (c .enum-told2 .given .1))
 
 pub whole-rows-spec : {M : Type 1} → statement M
 whole-rows-spec =
@@ -70,9 +71,9 @@ whole-rows-spec =
     enum-told
     returns
     returns-2
-    checked-mul-requires-2
+    expected-pages-requires
     enum-known-pages
+    whole-pages-requires
     enum-told-2
     returns-3
-    whole-pages-requires
     returns-4)

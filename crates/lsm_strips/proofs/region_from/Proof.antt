@@ -1,16 +1,16 @@
--- `lsm_strips::first_of_region` meets its contract: the scene, then the coordinate with the rectangle, then what is asked of the strips.
+-- `lsm_strips::region_from` meets its contract: the scene, then the coordinate with the rectangle, then what is asked of the strips.
 -- Assumes nothing.
 use borrow.Author.Needs.{needs}
-use Rattle.lsm_strips.proofs.first_of_region.Statement.{statement}
-use Rattle.lsm_strips.proofs.first_of_region.Tie as tie
+use Rattle.lsm_strips.proofs.region_from.Statement.{statement}
+use Rattle.lsm_strips.proofs.region_from.Tie as tie
 use mathlib.Core.Path.{_≡_, sym, ap, _∙_}
 use Rattle.lsm_format.specs.Answer.{accepted}
 use Rattle.lsm_format.specs.Code.{checkOf}
 use Rattle.lsm_description.specs.Code.{descriptionOf}
-use Rattle.lsm_strips.specs.Parts.{sceneThere}
+use Rattle.lsm_format.specs.Picture.{sceneThere}
 use Rattle.lsm_strips.proofs.Asking.{region-outside, region-off, region-within, region-there}
 
-there : (c : tie.After-enum-told) → sceneThere (descriptionOf (c .before .before .before .before .before .args .d)) (c .before .before .before .before .before .args .scene) ≡ accepted tt
+there : (c : tie.After-enum-told) → sceneThere (descriptionOf (c .before .before .before .before .before .args .d)) (c .before .before .before .before .before .args .co .scene) ≡ accepted tt
 there c = sym (c .before .before .checked-scene .ensures) ∙ ap checkOf (c .enum-told .given .1)
 
 checked-scene-requires : tie.Need-checked-scene-requires
@@ -25,10 +25,10 @@ checked-region-requires c κs = search needs
 enum-told-2 : tie.Need-enum-told-2
 enum-told-2 c = search needs
 
-first-of-part-requires : tie.Need-first-of-part-requires
-first-of-part-requires c κs =
+filled-strips-requires : tie.Need-filled-strips-requires
+filled-strips-requires c κs =
     let k = c .before .before in
-    region-there _ _ _ _ _ _ _ _ (there (k .before)) (sym (k .checked-region .ensures) ∙ ap checkOf (c .enum-told2 .given .1))
+    region-there _ _ _ _ _ (there (k .before)) (sym (k .checked-region .ensures) ∙ ap checkOf (c .enum-told2 .given .1))
 
 enum-known-outside : tie.Need-enum-known-outside
 enum-known-outside c = search needs
@@ -40,25 +40,25 @@ returns : tie.Need-returns
 returns c =
     let e = c .before in
     let k = e .before .before in
-    c .first-of-part .ensures ∙ region-within _ _ _ _ _ _ _ _ _ _ (there (k .before)) (sym (k .checked-region .ensures) ∙ ap checkOf (e .enum-told2 .given .1))
+    c .filled-strips .ensures ∙ region-within _ _ _ _ _ _ _ (there (k .before)) (sym (k .checked-region .ensures) ∙ ap checkOf (e .enum-told2 .given .1))
 
 returns-2 : tie.Need-returns-2
 returns-2 c =
     let k = c .before .before .before in
-    region-off _ _ _ _ _ _ _ _ _ _ (there (k .before)) (sym (k .checked-region .ensures) ∙ ap checkOf (c .before .outside .given .1))
+    region-off _ _ _ _ _ _ _ (there (k .before)) (sym (k .checked-region .ensures) ∙ ap checkOf (c .before .outside .given .1))
 
 returns-3 : tie.Need-returns-3
-returns-3 c = region-outside _ _ _ _ _ _ _ _ _ (sym (c .before .before .before .checked-scene .ensures) ∙ ap checkOf (c .before .missing .given .1))
+returns-3 c = region-outside _ _ _ _ _ _ (sym (c .before .before .before .checked-scene .ensures) ∙ ap checkOf (c .before .missing .given .1))
 
-pub first-of-region-spec : {M : Type 1} → statement M
-first-of-region-spec =
+pub region-from-spec : {M : Type 1} → statement M
+region-from-spec =
     tie.close
     (tie.spec
     checked-scene-requires
     enum-told
     checked-region-requires
     enum-told-2
-    first-of-part-requires
+    filled-strips-requires
     enum-known-outside
     enum-known-missing
     returns
