@@ -1,4 +1,6 @@
--- How large the numbers are that opening gives with a strip table of 4,096 words. Assumes nothing.
+-- How large the numbers are that opening gives with a strip table of 4,096 words. The table's words are a product of scenes, depth,
+-- channels and strips, twice; with no 0 among them, none is above 2,048 (`factors`). That none is 0, and that width and height have 32
+-- bits, is carried through opening's steps (`read-small`). Assumes nothing.
 use Prim.Native.Nat.{ℕ, zero, suc, _+_, _*_, _^_, _≤_, _<_}
 use native.Mathlib.Nat.{le-mul-of-pos-right, mul-pos}
 use native.Mathlib.Omega.{arith}

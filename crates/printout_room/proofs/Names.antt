@@ -1,4 +1,5 @@
--- How long the names of a file's channels are, which stand one after another in the file. Assumes nothing.
+-- How long the names of a file's channels are, which stand one after another in the file. A record begins where the one before ends
+-- (`names-length`), so their bytes add up to no more than the file's. Assumes nothing.
 use Prim.Native.Nat.{ℕ, zero, suc, _+_, _*_, _-_, _≤_, _<_}
 use native.Mathlib.Omega.{arith}
 use mathlib.Core.Bool.{Bool, true, false}

@@ -1,4 +1,5 @@
--- What opening refuses with: rows of at most three numbers of 64 bits. Assumes nothing.
+-- What opening refuses with: rows of at most three numbers of 64 bits. Each step of opening refuses with such a row or hands on another
+-- step's, and the search goes through the steps (`steps`). Assumes nothing.
 use Prim.Native.Nat.{ℕ, zero, suc, _+_, _*_, _-_, _^_, _≤_, _<_, min}
 use native.Mathlib.Omega.{arith}
 use mathlib.Core.Bool.{Bool, true, false, cond}

@@ -1,4 +1,6 @@
--- Every printout of a file of bytes has room in 524,288 bytes. Assumes nothing.
+-- Every printout of a file of bytes has room in 524,288 bytes. The weight lies in `channels-room`: a channel's line has six hex digits for
+-- each byte that its name takes of the file, and names don't overlap, so that all together they take no more than the 65,536 bytes of the
+-- file. The other lines are few and short: a table of 4,096 words has room for 2,048 scenes and channels at most (`Few`). Assumes nothing.
 use Prim.Native.Nat.{ℕ, _+_, _^_, _≤_, _<_}
 use native.Mathlib.Omega.{arith}
 use mathlib.Core.Bool.{Bool, true, false, cond}

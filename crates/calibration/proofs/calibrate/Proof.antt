@@ -1,4 +1,6 @@
--- `calibration::calibrate` meets its contract: past both tests neither X nor Y is a NaN. Assumes nothing.
+-- `calibration::calibrate` meets its contract: the tests on X and Y are the rule's (`no-x`, `no-y`). What is above 0 is no NaN
+-- (`above-number`), so the two refusals after `to_micrometres` are never reached, and `sized-is` puts the three sizes together. Assumes
+-- nothing.
 use mathlib.Core.Path.{sym, ap, _∙_}
 use borrow.Author.Tests.{not-true, not-false}
 use Rattle.lsm_format.specs.Calibration.{zStep}
@@ -33,8 +35,8 @@ enum-told c = search needs
 
 returns-3 : tie.Need-returns-3
 returns-3 c =
-    let above = c .before .before .before .before .before .before .above-zero .ensures in
-    absurd (above-number _ (sym above ∙ not-false _ (c .before .before .before .before .before .if1 .left))
+    let x = c .before .before .before .before .before in
+    absurd (above-number _ (sym (x .before .above-zero .ensures) ∙ not-false _ (x .if1 .left))
     (sym (ap floatOf (c .enum-told .given .1)) ∙ c .before .before .to-micrometres .ensures))
 
 to-micrometres-requires-2 : tie.Need-to-micrometres-requires-2

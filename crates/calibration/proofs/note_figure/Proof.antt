@@ -1,4 +1,5 @@
--- `calibration::note_figure` meets its contract, by the kinds of step. Assumes nothing.
+-- `calibration::note_figure` meets its contract, by the kind of step: each arm is what its callee ensures, once the step is known to be of
+-- that kind. Assumes nothing.
 use borrow.Author.Needs.{needs}
 use Rattle.calibration.proofs.note_figure.Statement.{statement}
 use Rattle.calibration.proofs.note_figure.Tie as tie

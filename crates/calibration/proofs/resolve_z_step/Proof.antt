@@ -1,4 +1,5 @@
--- `calibration::resolve_z_step` meets its contract. Assumes nothing.
+-- `calibration::resolve_z_step` meets its contract: a number's step is what `step` ensures, and a NaN has none (`step-nan`). Assumes
+-- nothing.
 use mathlib.Core.Path.{sym, ap, _∙_}
 use Rattle.lsm_format.specs.Calibration.{zStep}
 use Rattle.narrowing.specs.Code.{floatOf}

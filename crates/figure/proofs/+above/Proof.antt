@@ -1,4 +1,6 @@
--- `figure::above` meets its contract. It calls itself at `left - 1`, so its measure is `left`. Each answer is one question of `tensAbove`. Assumes nothing.
+-- `figure::above` meets its contract. It calls itself at `left - 1`, so its measure is `left`. Each answer is one question of `tensAbove`:
+-- none is left, the next ten fits, or it doesn't (`above-zero`, `above-go`, `above-stop`). The call needs ten times the new `den` to have
+-- room: it is no more than ten times `num`, which has. Assumes nothing.
 use Prim.Native.Nat.{ℕ, _≤_, _<_}
 use mathlib.Core.Path.{sym, _∙_}
 use native.Mathlib.Omega.{arith}
@@ -93,7 +95,10 @@ above-returns-2 : (t : ℕ) → above-lts.Need-returns-2 (
   above-below t,
   above.Post,
 ) (above-at t) above.Post
-above-returns-2 t c = above-go _ _ _ _ _ _ (c .before .before .before .before .before .before .if1 .left) (c .before .before .before .before .before .times .ensures) (sym (c .before .before .before .before .at-least .ensures) ∙ c .before .before .before .if2 .taken) (c .before .before .above .ensures)
+above-returns-2 t c =
+    let test = c .before .before .before in
+    let next = test .before .before in
+    above-go _ _ _ _ _ _ (next .before .if1 .left) (next .times .ensures) (sym (test .before .at-least .ensures) ∙ test .if2 .taken) (c .before .before .above .ensures)
 
 above-returns-3 : (t : ℕ) → above-lts.Need-returns-3 (
   times-reads.Asked,

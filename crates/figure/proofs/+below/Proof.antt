@@ -1,4 +1,6 @@
--- `figure::below` meets its contract. It calls itself at `left - 1`, so its measure is `left`. Each answer is one question of `tensBelow`. Assumes nothing.
+-- `figure::below` meets its contract. It calls itself at `left - 1`, so its measure is `left`. Each answer is one question of `tensBelow`:
+-- none is left, `num` has reached `den`, or it gets a ten (`below-zero`, `below-stop`, `below-go`). Ten times `num` has room, since `num`
+-- is below `den` there and ten times `den` has room. Assumes nothing.
 use Prim.Native.Nat.{ℕ, _<_}
 use mathlib.Core.Path.{sym, _∙_}
 use native.Mathlib.Omega.{arith}

@@ -1,4 +1,5 @@
--- `figure::count_text` meets its contract. By whether there are two digits. Assumes nothing.
+-- `figure::count_text` meets its contract, by whether there are two digits; at most two bytes are added to at most six, so they have room.
+-- Assumes nothing.
 use borrow.Author.Needs.{needs}
 use Rattle.figure.proofs.Texts.{count-two, count-one}
 use Rattle.figure.proofs.count_text.Statement.{statement}

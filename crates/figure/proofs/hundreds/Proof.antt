@@ -1,4 +1,5 @@
--- `figure::hundreds` meets its contract. By how twice the rest compares with `den`. Assumes nothing.
+-- `figure::hundreds` meets its contract, by how twice the rest compares with `den`: below it goes down, above it up, and at the half to
+-- the even one (`round-down`, `round-up`, `round-half`). Each needs what `three_digits` ensures of quotient and rest. Assumes nothing.
 use mathlib.Core.Path.{sym, _∙_}
 use borrow.Author.Needs.{needs}
 use Rattle.figure.proofs.Powers.{round-half, round-up, round-down}
@@ -21,16 +22,27 @@ add-result : tie.Need-add-result
 add-result c = search needs
 
 returns : tie.Need-returns
-returns c = round-half _ _ _ _ _ (c .before .before .before .before .before .before .three-digits .ensures) (c .before .before .before .before .times .ensures) (sym (c .before .before .before .at-least .ensures) ∙ c .before .before .if1 .taken) (sym (c .before .at-least2 .ensures) ∙ c .if2 .taken)
+returns c =
+    let twice = c .before .before .before .before in
+    let digits = twice .before .before in
+    round-half _ _ _ _ _ (digits .three-digits .ensures) (twice .times .ensures)
+    (sym (c .before .before .before .at-least .ensures) ∙ c .before .before .if1 .taken)
+    (sym (c .before .at-least2 .ensures) ∙ c .if2 .taken)
 
 add-result-2 : tie.Need-add-result-2
 add-result-2 c = search needs
 
 returns-2 : tie.Need-returns-2
-returns-2 c = round-up _ _ _ _ _ (c .before .before .before .before .before .before .three-digits .ensures) (c .before .before .before .before .times .ensures) (sym (c .before .at-least2 .ensures) ∙ c .if2 .left)
+returns-2 c =
+    let twice = c .before .before .before .before in
+    let digits = twice .before .before in
+    round-up _ _ _ _ _ (digits .three-digits .ensures) (twice .times .ensures) (sym (c .before .at-least2 .ensures) ∙ c .if2 .left)
 
 returns-3 : tie.Need-returns-3
-returns-3 c = round-down _ _ _ _ _ (c .before .before .before .before .three-digits .ensures) (c .before .before .times .ensures) (sym (c .before .at-least .ensures) ∙ c .if1 .left)
+returns-3 c =
+    let twice = c .before .before in
+    let digits = twice .before .before in
+    round-down _ _ _ _ _ (digits .three-digits .ensures) (twice .times .ensures) (sym (c .before .at-least .ensures) ∙ c .if1 .left)
 
 pub hundreds-spec : {M : Type 1} → statement M
 hundreds-spec =

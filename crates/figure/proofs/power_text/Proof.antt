@@ -1,4 +1,5 @@
--- `figure::power_text` meets its contract. By the sign of the power. Assumes nothing.
+-- `figure::power_text` meets its contract, by the sign of the power (`power-pos`, `power-neg`): the text after `e` is that of a
+-- difference, which the code takes the way it doesn't wrap. Assumes nothing.
 use native.Mathlib.Omega.{arith}
 use borrow.Author.Needs.{needs}
 use Rattle.figure.proofs.Texts.{power-pos, power-neg}

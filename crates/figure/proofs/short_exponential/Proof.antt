@@ -1,4 +1,6 @@
--- `figure::short_exponential` meets its contract. By the pattern's fields. Assumes nothing.
+-- `figure::short_exponential` meets its contract, by the pattern's fields: zero, not finite, subnormal, normal. The weight lies in
+-- `figure-tiny` and `figure-normal`, by which the fraction made here has the figure of the pattern, and in `near`, that it is at most 64
+-- powers of ten from 1. Assumes nothing.
 use native.Mathlib.Omega.{arith}
 use borrow.Author.Needs.{needs}
 use Rattle.figure.proofs.Fractions.{figure-zero, figure-none, figure-tiny, figure-normal}

@@ -1,4 +1,5 @@
--- `figure::text` meets its contract. By whether the three digits rounded up to 1000. Assumes nothing.
+-- `figure::text` meets its contract, by whether the three digits rounded up to 1000 (`text-up`, `text-plain`): then they are 100 of the
+-- next power, and `power_text` gets `above + 1`. Assumes nothing.
 use borrow.Author.Needs.{needs}
 use Rattle.figure.proofs.Texts.{text-up, text-plain}
 use Rattle.figure.proofs.text.Statement.{statement}

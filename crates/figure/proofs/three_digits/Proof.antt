@@ -1,4 +1,5 @@
--- `figure::three_digits` meets its contract. Each digit is of ten times what the one before left. Assumes nothing.
+-- `figure::three_digits` meets its contract: each digit is of ten times what the one before left, and `three` puts the three sums
+-- together. A rest is below `den`, so ten times it has room and again gives one digit. Assumes nothing.
 use borrow.Author.Needs.{needs}
 use Rattle.figure.proofs.Powers.{three}
 use Rattle.figure.proofs.three_digits.Statement.{statement}
@@ -32,7 +33,12 @@ add-t13 : tie.Need-add-t13
 add-t13 c = search needs
 
 returns : tie.Need-returns
-returns c = three _ _ _ _ _ _ _ _ _ _ (c .before .before .before .before .before .before .before .before .before .before .divided .ensures) (c .before .before .before .before .before .before .before .before .times .ensures) (c .before .before .before .before .before .before .before .divided2 .ensures) (c .before .before .before .before .before .times2 .ensures) (c .before .before .before .before .divided3 .ensures) (c .before .before .before .before .before .before .before .before .before .before .before .pre .0)
+returns c =
+    let third = c .before .before .before .before in
+    let second = third .before .before .before in
+    let first = second .before .before .before in
+    three _ _ _ _ _ _ _ _ _ _ (first .divided .ensures) (second .before .times .ensures) (second .divided2 .ensures) (third .before .times2 .ensures)
+    (third .divided3 .ensures) (first .before .pre .0)
 
 pub three-digits-spec : {M : Type 1} → statement M
 three-digits-spec =

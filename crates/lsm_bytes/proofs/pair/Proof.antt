@@ -1,3 +1,5 @@
+-- `lsm_bytes::pair` meets its contract: `n` is the little-endian number, and for the other order its rest and quotient by 256, which are
+-- the two bytes, change places. That is linear arithmetic, and so is that two bytes fit 16 bits. Assumes nothing.
 use native.Mathlib.Omega.{arith}
 use borrow.Author.Needs.{needs}
 use Rattle.lsm_bytes.proofs.pair.Statement.{statement}

@@ -1,3 +1,5 @@
+-- `lsm_bytes::quad` meets its contract: little-endian, the sum is the value by its definition; big-endian, `swapped` ensures the value for
+-- whichever four bytes make `n`, and it is told these four. Each is below 256, so every sum fits 32 bits. Assumes nothing.
 use native.Mathlib.Omega.{arith}
 use borrow.Author.Needs.{needs}
 use Rattle.lsm_bytes.proofs.quad.Statement.{statement}

@@ -1,3 +1,6 @@
+-- `lsm_bytes::read_f64_bits` meets its contract: as for the shorter numbers, the two tests say that all eight reads are in the file. The
+-- weight lies in the two answers, where two numbers of four bytes make the one of eight (`eight-little`, `eight-big`); there `p` and `q`
+-- are the calls of the first and the second `quad`. Assumes nothing.
 use Rattle.lsm_format.proofs.Numbers.{number-past, number-is}
 use Rattle.lsm_bytes.proofs.Eight.{eight-little, eight-big}
 use native.Mathlib.Omega.{arith}

@@ -1,3 +1,5 @@
+-- `lsm_bytes::read_i32` meets its contract: it answers what `read_u32` does, and its number goes through `signed`. The one step that isn't
+-- either contract is that an i32 which fits, stored and read back, is the same whole number (`toZ-ofZ`). Assumes nothing.
 use mir.ValLaws.{toZ-ofZ}
 use mir.Syntax.{w32}
 use mathlib.Core.Path.{sym, ap, _∙_}

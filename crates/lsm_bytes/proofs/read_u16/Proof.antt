@@ -1,3 +1,5 @@
+-- `lsm_bytes::read_u16` meets its contract: where a test refuses, the two bytes pass the end (`number-past`), and past both tests `off +
+-- 1` is in the file, so both reads are, and `pair` gives the number (`number-is`). Assumes nothing.
 use Rattle.lsm_format.proofs.Numbers.{number-past, number-is}
 use native.Mathlib.Omega.{arith}
 use mathlib.Core.Path.{sym}

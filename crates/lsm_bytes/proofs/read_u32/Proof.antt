@@ -1,3 +1,5 @@
+-- `lsm_bytes::read_u32` meets its contract: where a test refuses, the four bytes pass the end (`number-past`), and past both tests `off +
+-- 3` is in the file, so all four reads are, and `quad` gives the number (`number-is`). Assumes nothing.
 use Rattle.lsm_format.proofs.Numbers.{number-past, number-is}
 use native.Mathlib.Omega.{arith}
 use mathlib.Core.Path.{sym}

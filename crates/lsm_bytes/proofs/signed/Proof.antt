@@ -1,3 +1,6 @@
+-- `lsm_bytes::signed` meets its contract: below 2^31 the number is itself. From there on 2^32 is taken off in i64, where the difference
+-- has room, and the weight lies in following it as a whole number, negative, through i64 and then i32 (`less-than-all`, `toZ-ofZ`).
+-- Assumes nothing.
 use native.Mathlib.Omega.{arith}
 use mir.ValLaws.{toZ-pos, toZ-ofZ}
 use mir.Syntax.{w32, w64}

@@ -1,3 +1,5 @@
+-- `lsm_bytes::swapped` meets its contract: the rest and the quotient of `n` by 65,536 are its two halves, those of a half by 256 its two
+-- bytes, and `turned` puts the four together in the other order. Assumes nothing.
 use Prim.Native.Nat.{ℕ, _+_, _*_, _/_, _%_, _<_}
 use mathlib.Core.Path.{_≡_}
 use mathlib.Core.List.{[], _∷_}

@@ -1,4 +1,5 @@
--- `lsm_c::look_up` meets its contract. Assumes nothing.
+-- `lsm_c::look_up` meets its contract: words that are a description are looked up with it (`described`), others are refused before
+-- anything else, and `name` is as it was (`no-description`). Assumes nothing.
 use mathlib.Core.Path.{sym, ap, _∙_}
 use borrow.Author.Needs.{needs}
 use Rattle.lsm_description.specs.Code.{describedOf}
@@ -22,10 +23,15 @@ same-length : tie.Need-same-length
 same-length c = search needs
 
 returns : tie.Need-returns
-returns c = described _ _ _ _ _ _ _ (sym (c .before .before .before .before .before .before .before .read-description .ensures) ∙ ap describedOf (c .before .before .before .before .before .d .given .1)) (c .before .before .channel .ensures)
+returns c =
+    let known = c .before .before .before .before .before in
+    let words = known .before .before in
+    described _ _ _ _ _ _ _ (sym (words .read-description .ensures) ∙ ap describedOf (known .d .given .1)) (c .before .before .channel .ensures)
 
 returns-2 : tie.Need-returns-2
-returns-2 c = no-description _ _ _ _ _ (sym (c .before .before .before .read-description .ensures) ∙ ap describedOf (c .before .r .given .1))
+returns-2 c =
+    let words = c .before .before .before in
+    no-description _ _ _ _ _ (sym (words .read-description .ensures) ∙ ap describedOf (c .before .r .given .1))
 
 pub look-up-spec : {M : Type 1} → statement M
 look-up-spec =

@@ -1,4 +1,4 @@
--- `lsm_c::lsm_channel` meets its contract. Assumes nothing.
+-- `lsm_c::lsm_channel` meets its contract: the words are those of what `look_up` answers, and the first is returned. Assumes nothing.
 use borrow.Author.Needs.{needs}
 use Rattle.lsm_c.proofs.Calls.{looked-up}
 use Rattle.lsm_c.proofs.lsm_channel.Statement.{statement}

@@ -1,4 +1,4 @@
--- `lsm_c::lsm_open` meets its contract. Assumes nothing.
+-- `lsm_c::lsm_open` meets its contract: the words are those of what `open_file` answers, and the first is returned. Assumes nothing.
 use borrow.Author.Needs.{needs}
 use Rattle.lsm_c.proofs.Calls.{opened-by}
 use Rattle.lsm_c.proofs.lsm_open.Statement.{statement}

@@ -1,3 +1,6 @@
+-- `lsm_description::check_agreement` meets its contract: each answer opens the definition and rewrites by the tests passed, in its order:
+-- width, height, channels, time, planes, strips. The names in an answer are the places in the code of these tests. The last test needs
+-- `channels` above 0, which `at_least_one` ensures. Assumes nothing.
 use mathlib.Core.Bool.{_||_}
 use lib.Dec.{leb}
 use mathlib.Core.Path.{sym, _∙_}
@@ -22,18 +25,29 @@ returns c = λ o f. rw (ne-eqb _ _ (c .if1 .taken))
 
 returns-2 : tie.Need-returns-2
 unfolding agreement bind
-returns-2 c = λ o f. rw (eq-eqb _ _ (c .before .before .before .if1 .left), ne-eqb _ _ (c .if2 .taken))
+returns-2 c =
+    let width = c .before .before .before in
+    λ o f. rw (eq-eqb _ _ (width .if1 .left), ne-eqb _ _ (c .if2 .taken))
 
 cast-if3 : tie.Need-cast-if3
 cast-if3 c = search needs
 
 returns-3 : tie.Need-returns-3
 unfolding agreement bind
-returns-3 c = λ o f. rw (eq-eqb _ _ (c .before .before .before .before .before .if1 .left), eq-eqb _ _ (c .before .before .if2 .left), ← c .before .before .before .before .before .before .before .before .before .at-least-one .ensures .0, ne-eqb _ _ (c .if3 .taken))
+returns-3 c =
+    let height = c .before .before in
+    let width = height .before .before .before in
+    let channels = width .before .before .before .before in
+    λ o f. rw (eq-eqb _ _ (width .if1 .left), eq-eqb _ _ (height .if2 .left), ← channels .at-least-one .ensures .0, ne-eqb _ _ (c .if3 .taken))
 
 returns-4 : tie.Need-returns-4
 unfolding agreement bind
-returns-4 c = λ o f. rw (eq-eqb _ _ (c .before .before .before .before .before .before .before .if1 .left), eq-eqb _ _ (c .before .before .before .before .if2 .left), ← c .before .before .before .before .before .before .before .before .before .before .before .at-least-one .ensures .0, eq-eqb _ _ (c .before .before .if3 .left), lt-leb _ _ (c .if4 .taken))
+returns-4 c =
+    let count = c .before .before in
+    let height = count .before .before in
+    let width = height .before .before .before in
+    let channels = width .before .before .before .before in
+    λ o f. rw (eq-eqb _ _ (width .if1 .left), eq-eqb _ _ (height .if2 .left), ← channels .at-least-one .ensures .0, eq-eqb _ _ (count .if3 .left), lt-leb _ _ (c .if4 .taken))
 
 is-interleaved-requires : tie.Need-is-interleaved-requires
 is-interleaved-requires c κs = search needs
@@ -41,12 +55,26 @@ is-interleaved-requires c κs = search needs
 returns-5 : tie.Need-returns-5
 unfolding agreement bind
 returns-5 c =
-    λ o f. rw (eq-eqb _ _ (c .before .before .before .before .before .before .before .before .before .if1 .left), eq-eqb _ _ (c .before .before .before .before .before .before .if2 .left), ← c .before .before .before .before .before .before .before .before .before .before .before .before .before .at-least-one .ensures .0, eq-eqb _ _ (c .before .before .before .before .if3 .left), le-leb _ _ (c .before .before .if4 .left), not-true (leb (c .before .before .before .before .before .before .before .before .before .before .before .before .before .at-least-one .result) 1 || c .before .before .before .before .before .before .before .before .before .before .before .before .before .before .before .args .page .planar) (sym (c .before .is-interleaved .ensures) ∙ c .if5 .taken))
+    let time = c .before .before in
+    let count = time .before .before in
+    let height = count .before .before in
+    let width = height .before .before .before in
+    let channels = width .before .before .before .before in
+    let start = channels .before .before in
+    λ o f. rw (eq-eqb _ _ (width .if1 .left), eq-eqb _ _ (height .if2 .left), ← channels .at-least-one .ensures .0, eq-eqb _ _ (count .if3 .left), le-leb _ _ (time .if4 .left), not-true (leb (channels .at-least-one .result) 1 || start .args .page .planar) (sym (c .before .is-interleaved .ensures) ∙ c .if5 .taken))
 
 returns-6 : tie.Need-returns-6
 unfolding agreement bind
 returns-6 c =
-    λ o f. rw (eq-eqb _ _ (c .before .before .before .before .before .before .before .before .before .before .before .if1 .left), eq-eqb _ _ (c .before .before .before .before .before .before .before .before .if2 .left), ← c .before .before .before .before .before .before .before .before .before .before .before .before .before .before .before .at-least-one .ensures .0, eq-eqb _ _ (c .before .before .before .before .before .before .if3 .left), le-leb _ _ (c .before .before .before .before .if4 .left), not-false (leb (c .before .before .before .before .before .before .before .before .before .before .before .before .before .before .before .at-least-one .result) 1 || c .before .before .before .before .before .before .before .before .before .before .before .before .before .before .before .before .before .args .page .planar) (sym (c .before .before .before .is-interleaved .ensures) ∙ c .before .before .if5 .left), values-length, eq-eqb _ _ (c .if6 .taken))
+    let planes = c .before .before in
+    let asked = planes .before in
+    let time = asked .before in
+    let count = time .before .before in
+    let height = count .before .before in
+    let width = height .before .before .before in
+    let channels = width .before .before .before .before in
+    let start = channels .before .before in
+    λ o f. rw (eq-eqb _ _ (width .if1 .left), eq-eqb _ _ (height .if2 .left), ← channels .at-least-one .ensures .0, eq-eqb _ _ (count .if3 .left), le-leb _ _ (time .if4 .left), not-false (leb (channels .at-least-one .result) 1 || start .args .page .planar) (sym (asked .is-interleaved .ensures) ∙ planes .if5 .left), values-length, eq-eqb _ _ (c .if6 .taken))
 
 rem-if7 : tie.Need-rem-if7
 rem-if7 c = search needs
@@ -54,12 +82,30 @@ rem-if7 c = search needs
 returns-7 : tie.Need-returns-7
 unfolding agreement bind
 returns-7 c =
-    λ o f. rw (eq-eqb _ _ (c .before .before .before .before .before .before .before .before .before .before .before .before .before .if1 .left), eq-eqb _ _ (c .before .before .before .before .before .before .before .before .before .before .if2 .left), ← c .before .before .before .before .before .before .before .before .before .before .before .before .before .before .before .before .before .at-least-one .ensures .0, eq-eqb _ _ (c .before .before .before .before .before .before .before .before .if3 .left), le-leb _ _ (c .before .before .before .before .before .before .if4 .left), not-false (leb (c .before .before .before .before .before .before .before .before .before .before .before .before .before .before .before .before .before .at-least-one .result) 1 || c .before .before .before .before .before .before .before .before .before .before .before .before .before .before .before .before .before .before .before .args .page .planar) (sym (c .before .before .before .before .before .is-interleaved .ensures) ∙ c .before .before .before .before .if5 .left), values-length, ne-eqb _ _ (c .before .before .if6 .left), ne-eqb _ _ (c .if7 .taken))
+    let strips = c .before .before in
+    let planes = strips .before .before in
+    let asked = planes .before in
+    let time = asked .before in
+    let count = time .before .before in
+    let height = count .before .before in
+    let width = height .before .before .before in
+    let channels = width .before .before .before .before in
+    let start = channels .before .before in
+    λ o f. rw (eq-eqb _ _ (width .if1 .left), eq-eqb _ _ (height .if2 .left), ← channels .at-least-one .ensures .0, eq-eqb _ _ (count .if3 .left), le-leb _ _ (time .if4 .left), not-false (leb (channels .at-least-one .result) 1 || start .args .page .planar) (sym (asked .is-interleaved .ensures) ∙ planes .if5 .left), values-length, ne-eqb _ _ (strips .if6 .left), ne-eqb _ _ (c .if7 .taken))
 
 returns-8 : tie.Need-returns-8
 unfolding agreement bind
 returns-8 c =
-    λ o f. rw (eq-eqb _ _ (c .before .before .before .before .before .before .before .before .before .before .before .before .before .if1 .left), eq-eqb _ _ (c .before .before .before .before .before .before .before .before .before .before .if2 .left), ← c .before .before .before .before .before .before .before .before .before .before .before .before .before .before .before .before .before .at-least-one .ensures .0, eq-eqb _ _ (c .before .before .before .before .before .before .before .before .if3 .left), le-leb _ _ (c .before .before .before .before .before .before .if4 .left), not-false (leb (c .before .before .before .before .before .before .before .before .before .before .before .before .before .before .before .before .before .at-least-one .result) 1 || c .before .before .before .before .before .before .before .before .before .before .before .before .before .before .before .before .before .before .before .args .page .planar) (sym (c .before .before .before .before .before .is-interleaved .ensures) ∙ c .before .before .before .before .if5 .left), values-length, ne-eqb _ _ (c .before .before .if6 .left), eq-eqb _ _ (c .if7 .left))
+    let strips = c .before .before in
+    let planes = strips .before .before in
+    let asked = planes .before in
+    let time = asked .before in
+    let count = time .before .before in
+    let height = count .before .before in
+    let width = height .before .before .before in
+    let channels = width .before .before .before .before in
+    let start = channels .before .before in
+    λ o f. rw (eq-eqb _ _ (width .if1 .left), eq-eqb _ _ (height .if2 .left), ← channels .at-least-one .ensures .0, eq-eqb _ _ (count .if3 .left), le-leb _ _ (time .if4 .left), not-false (leb (channels .at-least-one .result) 1 || start .args .page .planar) (sym (asked .is-interleaved .ensures) ∙ planes .if5 .left), values-length, ne-eqb _ _ (strips .if6 .left), eq-eqb _ _ (c .if7 .left))
 
 pub check-agreement-spec : {M : Type 1} → statement M
 check-agreement-spec =

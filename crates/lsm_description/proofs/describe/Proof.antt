@@ -1,3 +1,5 @@
+-- `lsm_description::describe` meets its contract: the agreement, then the layout, then the record field by field. A refusal is the
+-- callee's own; the strips' number is the length of the definition's list (`values-length`). Assumes nothing.
 use mathlib.Core.Path.{sym, ap, _∙_}
 use Rattle.lsm_format.specs.Answer.{bind}
 use Rattle.lsm_format.specs.Code.{checkOf}
@@ -20,7 +22,9 @@ enum-known-r c = search needs
 
 returns : tie.Need-returns
 unfolding Open.describe bind
-returns c = λ o f. rw (sym (c .before .before .before .check-agreement .ensures o f) ∙ ap checkOf (c .before .r .given .1))
+returns c =
+    let agreed = c .before .before .before in
+    λ o f. rw (sym (agreed .check-agreement .ensures o f) ∙ ap checkOf (c .before .r .given .1))
 
 layout-for-requires : tie.Need-layout-for-requires
 layout-for-requires c κs = search needs
@@ -33,7 +37,11 @@ enum-known-r-2 c = search needs
 
 returns-2 : tie.Need-returns-2
 unfolding Open.describe bind
-returns-2 c = λ o f. rw (sym (c .before .before .before .before .before .before .check-agreement .ensures o f) ∙ ap checkOf (c .before .before .before .before .enum-told .given .1), sym (c .before .before .before .layout-for .ensures) ∙ ap answerOf (c .before .r2 .given .1))
+returns-2 c =
+    let laid = c .before .before .before in
+    let accepted = laid .before in
+    let agreed = accepted .before .before in
+    λ o f. rw (sym (agreed .check-agreement .ensures o f) ∙ ap checkOf (accepted .enum-told .given .1), sym (laid .layout-for .ensures) ∙ ap answerOf (c .before .r2 .given .1))
 
 cast-at-least-one : tie.Need-cast-at-least-one
 cast-at-least-one c = search needs
@@ -55,7 +63,14 @@ div-t19 c = search needs
 
 returns-3 : tie.Need-returns-3
 unfolding Open.describe bind
-returns-3 c = λ o f. rw (sym (c .before .before .before .before .before .before .before .before .before .before .before .before .before .check-agreement .ensures o f) ∙ ap checkOf (c .before .before .before .before .before .before .before .before .before .before .before .enum-told .given .1), sym (c .before .before .before .before .before .before .before .before .before .before .layout-for .ensures) ∙ ap answerOf (c .before .before .before .before .before .before .before .before .l .given .1), values-length, ← c .before .before .before .before .before .at-least-one .ensures .0, ← c .before .before .before .at-least-one2 .ensures .0)
+returns-3 c =
+    let depth = c .before .before .before in
+    let channels = depth .before .before in
+    let layout = channels .before .before .before in
+    let laid = layout .before .before in
+    let accepted = laid .before in
+    let agreed = accepted .before .before in
+    λ o f. rw (sym (agreed .check-agreement .ensures o f) ∙ ap checkOf (accepted .enum-told .given .1), sym (laid .layout-for .ensures) ∙ ap answerOf (layout .l .given .1), values-length, ← channels .at-least-one .ensures .0, ← depth .at-least-one2 .ensures .0)
 
 pub describe-spec : {M : Type 1} → statement M
 describe-spec =

@@ -1,3 +1,5 @@
+-- `lsm_description::layout_for` meets its contract: `LsmLayout::new` and `expected_pages` refuse as the definition's two steps do, and the
+-- test on the pages is its third. P and M are signed: stored as 32 bits and read back they are themselves (`p`, `m`). Assumes nothing.
 use mir.Syntax.{w32}
 use mir.Val.{toZ, ofZ}
 use mathlib.Core.Path.{_≡_, sym, ap, _∙_}
@@ -31,8 +33,13 @@ returns c =
     let i = c .before .before .before .before .before .before .before .before .before .before .before .before .args .info in
     let p : toZ w32 (ofZ w32 (i .«dim_p»)) ≡ i .«dim_p» = search needs in
     let m : toZ w32 (ofZ w32 (i .«dim_m»)) ≡ i .«dim_m» = search needs in
-    let l = rw (p, m) at (sym (c .before .before .before .before .before .before .before .before .new .ensures) ∙ ap answerOf (c .before .before .before .before .before .before .layout .given .1)) in
-    rw (← c .before .before .before .before .before .before .before .before .before .before .before .at-least-one .ensures .0, l, sym (c .before .before .before .before .expected-pages .ensures) ∙ ap pagesOf (c .before .before .expected .given .1), ne-eqb _ _ (c .if1 .taken))
+    let pages = c .before .before in
+    let asked = pages .before .before in
+    let given = asked .before .before in
+    let made = given .before .before in
+    let depth = made .before .before .before in
+    let l = rw (p, m) at (sym (made .new .ensures) ∙ ap answerOf (given .layout .given .1)) in
+    rw (← depth .at-least-one .ensures .0, l, sym (asked .expected-pages .ensures) ∙ ap pagesOf (pages .expected .given .1), ne-eqb _ _ (c .if1 .taken))
 
 enum-known-r : tie.Need-enum-known-r
 enum-known-r c = search needs
@@ -46,8 +53,13 @@ returns-2 c =
     let i = c .before .before .before .before .before .before .before .before .before .before .before .before .args .info in
     let p : toZ w32 (ofZ w32 (i .«dim_p»)) ≡ i .«dim_p» = search needs in
     let m : toZ w32 (ofZ w32 (i .«dim_m»)) ≡ i .«dim_m» = search needs in
-    let l = rw (p, m) at (sym (c .before .before .before .before .before .before .before .before .new .ensures) ∙ ap answerOf (c .before .before .before .before .before .before .layout .given .1)) in
-    rw (← c .before .before .before .before .before .before .before .before .before .before .before .at-least-one .ensures .0, l, sym (c .before .before .before .before .expected-pages .ensures) ∙ ap pagesOf (c .before .before .expected .given .1), eq-eqb _ _ (c .if1 .left))
+    let pages = c .before .before in
+    let asked = pages .before .before in
+    let given = asked .before .before in
+    let made = given .before .before in
+    let depth = made .before .before .before in
+    let l = rw (p, m) at (sym (made .new .ensures) ∙ ap answerOf (given .layout .given .1)) in
+    rw (← depth .at-least-one .ensures .0, l, sym (asked .expected-pages .ensures) ∙ ap pagesOf (pages .expected .given .1), eq-eqb _ _ (c .if1 .left))
 
 returns-3 : tie.Need-returns-3
 unfolding layoutFor bind
@@ -55,8 +67,12 @@ returns-3 c =
     let i = c .before .before .before .before .before .before .before .before .before .before .before .args .info in
     let p : toZ w32 (ofZ w32 (i .«dim_p»)) ≡ i .«dim_p» = search needs in
     let m : toZ w32 (ofZ w32 (i .«dim_m»)) ≡ i .«dim_m» = search needs in
-    let l = rw (p, m) at (sym (c .before .before .before .before .before .before .before .new .ensures) ∙ ap answerOf (c .before .before .before .before .before .layout .given .1)) in
-    rw (← c .before .before .before .before .before .before .before .before .before .before .at-least-one .ensures .0, l, sym (c .before .before .before .expected-pages .ensures) ∙ ap pagesOf (c .before .r .given .1))
+    let asked = c .before .before .before in
+    let given = asked .before .before in
+    let made = given .before .before in
+    let depth = made .before .before .before in
+    let l = rw (p, m) at (sym (made .new .ensures) ∙ ap answerOf (given .layout .given .1)) in
+    rw (← depth .at-least-one .ensures .0, l, sym (asked .expected-pages .ensures) ∙ ap pagesOf (c .before .r .given .1))
 
 returns-4 : tie.Need-returns-4
 unfolding layoutFor bind
@@ -64,8 +80,10 @@ returns-4 c =
     let i = c .before .before .before .before .before .before .before .args .info in
     let p : toZ w32 (ofZ w32 (i .«dim_p»)) ≡ i .«dim_p» = search needs in
     let m : toZ w32 (ofZ w32 (i .«dim_m»)) ≡ i .«dim_m» = search needs in
-    let l = rw (p, m) at (sym (c .before .before .before .new .ensures) ∙ ap answerOf (c .before .r2 .given .1)) in
-    rw (← c .before .before .before .before .before .before .at-least-one .ensures .0, l)
+    let made = c .before .before .before in
+    let depth = made .before .before .before in
+    let l = rw (p, m) at (sym (made .new .ensures) ∙ ap answerOf (c .before .r2 .given .1)) in
+    rw (← depth .at-least-one .ensures .0, l)
 
 pub layout-for-spec : {M : Type 1} → statement M
 layout-for-spec =

@@ -1,3 +1,5 @@
+-- `lsm_description::map_dtype` meets its contract: at each answer the tests that led there settle the definition's four pairs, format and
+-- bits, one after another. Assumes nothing.
 use borrow.Author.Tests.{ne-eqb}
 use Rattle.lsm_description.proofs.map_dtype.Statement.{statement}
 use Rattle.lsm_description.proofs.map_dtype.Tie as tie

@@ -1,3 +1,5 @@
+-- `lsm_description::read_tiff_header` meets its contract: length, order mark, magic, each by the callee's equation. The first two bytes
+-- may be read since there are eight. Assumes nothing.
 use mathlib.Core.Path.{sym, ap, _∙_}
 use borrow.Author.Tests.{eq-eqb, ne-eqb, le-leb, lt-leb}
 use Rattle.lsm_format.specs.Answer.{bind}
@@ -36,22 +38,42 @@ enum-told c = search needs
 
 returns-2 : tie.Need-returns-2
 unfolding tiffHeader bind
-returns-2 c = rw (le-leb _ _ (c .before .before .before .before .before .before .before .before .before .if1 .left), sym (c .before .before .before .before .before .before .order-mark .ensures) ∙ ap headerOf (c .before .before .before .before .e .given .1), sym (c .before .before .read-u16 .ensures) ∙ ap u16Of (c .enum-told .given .1))
+returns-2 c =
+    let number = c .before .before in
+    let order = number .before .before in
+    let mark = order .before .before in
+    let long = mark .before .before .before in
+    rw (le-leb _ _ (long .if1 .left), sym (mark .order-mark .ensures) ∙ ap headerOf (order .e .given .1), sym (number .read-u16 .ensures) ∙ ap u16Of (c .enum-told .given .1))
 
 returns-3 : tie.Need-returns-3
 unfolding tiffHeader bind
-returns-3 c = rw (le-leb _ _ (c .before .before .before .before .before .before .before .before .before .before .before .if1 .left), sym (c .before .before .before .before .before .before .before .before .order-mark .ensures) ∙ ap headerOf (c .before .before .before .before .before .before .e .given .1), sym (c .before .before .before .before .read-u16 .ensures) ∙ ap u16Of (c .before .before .magic .given .1), ne-eqb _ _ (c .if2 .taken))
+returns-3 c =
+    let value = c .before .before in
+    let number = value .before .before in
+    let order = number .before .before in
+    let mark = order .before .before in
+    let long = mark .before .before .before in
+    rw (le-leb _ _ (long .if1 .left), sym (mark .order-mark .ensures) ∙ ap headerOf (order .e .given .1), sym (number .read-u16 .ensures) ∙ ap u16Of (value .magic .given .1), ne-eqb _ _ (c .if2 .taken))
 
 enum-known-r : tie.Need-enum-known-r
 enum-known-r c = search needs
 
 returns-4 : tie.Need-returns-4
 unfolding tiffHeader bind
-returns-4 c = rw (le-leb _ _ (c .before .before .before .before .before .before .before .before .before .before .before .if1 .left), sym (c .before .before .before .before .before .before .before .before .order-mark .ensures) ∙ ap headerOf (c .before .before .before .before .before .before .e .given .1), sym (c .before .before .before .before .read-u16 .ensures) ∙ ap u16Of (c .before .before .magic .given .1), eq-eqb _ _ (c .if2 .left))
+returns-4 c =
+    let value = c .before .before in
+    let number = value .before .before in
+    let order = number .before .before in
+    let mark = order .before .before in
+    let long = mark .before .before .before in
+    rw (le-leb _ _ (long .if1 .left), sym (mark .order-mark .ensures) ∙ ap headerOf (order .e .given .1), sym (number .read-u16 .ensures) ∙ ap u16Of (value .magic .given .1), eq-eqb _ _ (c .if2 .left))
 
 returns-5 : tie.Need-returns-5
 unfolding tiffHeader bind
-returns-5 c = rw (le-leb _ _ (c .before .before .before .before .before .before .if1 .left), sym (c .before .before .before .order-mark .ensures) ∙ ap headerOf (c .before .r .given .1))
+returns-5 c =
+    let mark = c .before .before .before in
+    let long = mark .before .before .before in
+    rw (le-leb _ _ (long .if1 .left), sym (mark .order-mark .ensures) ∙ ap headerOf (c .before .r .given .1))
 
 pub read-tiff-header-spec : {M : Type 1} → statement M
 read-tiff-header-spec =

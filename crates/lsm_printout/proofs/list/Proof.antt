@@ -1,4 +1,5 @@
--- `lsm_printout::list` meets its contract. Assumes nothing.
+-- `lsm_printout::list` meets its contract, by whether the file is too long (`printout-long`, `printout-told`). `open_file` ensures the
+-- answer that the definition tells with a table of 4,096 words. Assumes nothing.
 use Rattle.lsm_format.specs.Printout.{tooLongLine}
 use Rattle.lsm_printout.proofs.Puts.{same, listed}
 use Rattle.lsm_printout.proofs.TextLines.{line}
@@ -17,7 +18,9 @@ same-length : tie.Need-same-length
 same-length c = search needs
 
 returns : tie.Need-returns
-returns c = listed (same (printout-long _ (c .before .before .before .before .before .if1 .taken)) (line tooLongLine (c .before .before .put-bytes .ensures)))
+returns c =
+    let test = c .before .before .before .before .before in
+    listed (same (printout-long _ (test .if1 .taken)) (line tooLongLine (c .before .before .put-bytes .ensures)))
 
 slice-aggregate-open-file : tie.Need-slice-aggregate-open-file
 slice-aggregate-open-file c = search needs
@@ -32,7 +35,10 @@ same-length-2 : tie.Need-same-length-2
 same-length-2 c = search needs
 
 returns-2 : tie.Need-returns-2
-returns-2 c = listed (same (printout-told _ (c .before .before .before .before .before .before .before .if1 .left) (c .before .before .before .before .before .open-file .ensures .answered)) (c .before .before .put-answer .ensures))
+returns-2 c =
+    let opened = c .before .before .before .before .before in
+    let test = opened .before .before in
+    listed (same (printout-told _ (test .if1 .left) (opened .open-file .ensures .answered)) (c .before .before .put-answer .ensures))
 
 pub list-spec : {M : Type 1} → statement M
 list-spec =

@@ -1,4 +1,5 @@
--- `lsm_printout::put_accepted` meets its contract. Assumes nothing.
+-- `lsm_printout::put_accepted` meets its contract: head, scenes, channel count, channels and notes, lines after lines (`joined`). Assumes
+-- nothing.
 use Rattle.lsm_format.specs.Printout.{acceptedLines}
 use Rattle.lsm_printout.proofs.TextLines.{joined}
 use borrow.Author.Needs.{needs}
@@ -25,7 +26,12 @@ same-length c = search needs
 
 returns : tie.Need-returns
 unfolding acceptedLines
-returns c = joined _ _ (joined _ _ (joined _ _ (joined _ _ (c .before .before .before .before .before .before .before .before .before .before .before .before .before .before .before .before .before .before .put-head .ensures) (c .before .before .before .before .before .before .before .before .before .before .before .before .before .before .put-scenes .ensures)) (c .before .before .before .before .before .before .before .before .before .before .put-channel-count .ensures)) (c .before .before .before .before .before .before .put-channels .ensures)) (c .before .before .put-notes .ensures)
+returns c =
+    let channels = c .before .before .before .before .before .before in
+    let count = channels .before .before .before .before in
+    let scenes = count .before .before .before .before in
+    let head = scenes .before .before .before .before in
+    joined _ _ (joined _ _ (joined _ _ (joined _ _ (head .put-head .ensures) (scenes .put-scenes .ensures)) (count .put-channel-count .ensures)) (channels .put-channels .ensures)) (c .before .before .put-notes .ensures)
 
 pub put-accepted-spec : {M : Type 1} → statement M
 put-accepted-spec =

@@ -1,4 +1,4 @@
--- `lsm_printout::put_answer` meets its contract. Assumes nothing.
+-- `lsm_printout::put_answer` meets its contract, by what opening answered: each arm is what its callee ensures. Assumes nothing.
 use borrow.Author.Needs.{needs}
 use Rattle.lsm_printout.proofs.put_answer.Statement.{statement}
 use Rattle.lsm_printout.proofs.put_answer.Tie as tie

@@ -1,4 +1,5 @@
--- `lsm_printout::put_head` meets its contract. Assumes nothing.
+-- `lsm_printout::put_head` meets its contract: five lines, each put after the one before (`joined`); the first is bytes with their line's
+-- end. Assumes nothing.
 use Rattle.lsm_format.specs.Printout.{acceptedLine, headLines}
 use Rattle.lsm_printout.proofs.TextLines.{line, joined}
 use borrow.Author.Needs.{needs}
@@ -28,7 +29,12 @@ same-length c = search needs
 
 returns : tie.Need-returns
 unfolding headLines
-returns c = joined _ _ (joined _ _ (joined _ _ (joined _ _ (line acceptedLine (c .before .before .before .before .before .before .before .before .before .before .before .before .before .before .before .before .before .before .put-bytes .ensures)) (c .before .before .before .before .before .before .before .before .before .before .before .before .before .before .put-dims .ensures)) (c .before .before .before .before .before .before .before .before .before .before .put-kind .ensures)) (c .before .before .before .before .before .before .put-pixel .ensures)) (c .before .before .put-scene-count .ensures)
+returns c =
+    let pixel = c .before .before .before .before .before .before in
+    let kind = pixel .before .before .before .before in
+    let dims = kind .before .before .before .before in
+    let first = dims .before .before .before .before in
+    joined _ _ (joined _ _ (joined _ _ (joined _ _ (line acceptedLine (first .put-bytes .ensures)) (dims .put-dims .ensures)) (kind .put-kind .ensures)) (pixel .put-pixel .ensures)) (c .before .before .put-scene-count .ensures)
 
 pub put-head-spec : {M : Type 1} → statement M
 put-head-spec =

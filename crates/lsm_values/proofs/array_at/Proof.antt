@@ -1,3 +1,6 @@
+-- `lsm_values::array_at` meets its contract: each answer is a law of `proofs.Laws`, by the tests before it. The definition reads the
+-- values one by one; that the last byte decides for all of them is `array-there` and `array-past`. At most 100,000 values of at most 4
+-- bytes keep the product in 64 bits. In the answers, `i` is the call of `integer_width`, and `w` the width that it gave. Assumes nothing.
 use native.Mathlib.Omega.{arith}
 use native.Mathlib.Nat.{mul-le-mul}
 use mathlib.Core.Path.{sym, ap, _∙_}
@@ -42,7 +45,10 @@ width-bytes-requires : tie.Need-width-bytes-requires
 width-bytes-requires c κs = search needs
 
 mul-if4 : tie.Need-mul-if4
-mul-if4 c = record { fits = omega (arith, mul-le-mul {n₁ = c .width-bytes .result} {m₁ = c .before .before .before .before .before .before .before .before .before .args .count} {n₂ = 4} {m₂ = 100000} (c .width-bytes .ensures .1) (c .before .before .before .before .before .before .before .if1 .left)) }
+mul-if4 c =
+    let few = c .before .before .before .before .before .before .before in
+    let start = few .before .before in
+    record { fits = omega (arith, mul-le-mul {n₁ = c .width-bytes .result} {m₁ = start .args .count} {n₂ = 4} {m₂ = 100000} (c .width-bytes .ensures .1) (few .if1 .left)) }
 
 returns-5 : tie.Need-returns-5
 returns-5 c =

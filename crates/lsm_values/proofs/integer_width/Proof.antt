@@ -1,3 +1,5 @@
+-- `lsm_values::integer_width` meets its contract: for a code that an arm names, the definition computes. The rest is every other code,
+-- which is told from the named ones by the arms that it missed (`integer-low`, `integer-one`, `integer-high`). Assumes nothing.
 use mathlib.Core.Logic.{⊎-elim, inl, inr}
 use Rattle.lsm_format.specs.Directory.{integerSize}
 use Rattle.lsm_format.proofs.Directory.{integer-low, integer-high, integer-one}

@@ -1,3 +1,5 @@
+-- `lsm_values::read_array` meets its contract: the checks in their order, type, place, array (`array-no-type`, `array-nowhere`,
+-- `array-after`). `value_place` needs a size of at most 8, which every type has. Assumes nothing.
 use native.Mathlib.Omega.{arith}
 use mathlib.Core.Path.{sym, ap, _∙_}
 use Rattle.lsm_format.proofs.Directory.{type-size-small, array-no-type, array-nowhere}

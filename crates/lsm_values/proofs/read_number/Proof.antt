@@ -1,3 +1,5 @@
+-- `lsm_values::read_number` meets its contract, by the width: each arm is what its reader ensures. A byte is the number of one byte in
+-- either order (`number-byte`). Assumes nothing.
 use Rattle.lsm_format.proofs.Numbers.{number-byte}
 use mathlib.Core.Path.{sym, ap, _∙_}
 use Rattle.lsm_bytes.specs.Code.{u8Of, u16Of}

@@ -1,3 +1,6 @@
+-- `lsm_values::read_scalar` meets its contract: each answer is the law of the check that gives it, in their order: type, count, place,
+-- kind of number, number (`scalar-no-type` to `scalar-is`). In the answers `t`, `v`, `p`, `i` and `n` are the places in the code of the
+-- type's size, the value's place, the place that it gave, the kind of number and the number. Assumes nothing.
 use native.Mathlib.Omega.{arith}
 use mathlib.Core.Path.{sym, ap, _∙_}
 use Rattle.lsm_format.proofs.Directory.{type-size-small, scalar-no-type, scalar-no-count, scalar-nowhere, scalar-no-number, scalar-is}

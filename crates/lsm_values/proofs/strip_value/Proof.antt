@@ -1,3 +1,6 @@
+-- `lsm_values::strip_value` meets its contract: past the count there is no value (`value-none`), and past the file the definition's list
+-- is 0 (`value-past`). The division says without a product whether value `i` is in the file (`past-them`, `among-them`); so the product
+-- and the sum after it fit. Assumes nothing.
 use Rattle.lsm_format.specs.Answer.{accepted, refused, parse}
 use Rattle.lsm_values.specs.Values.{orNought}
 use native.Mathlib.Omega.{arith}

@@ -1,3 +1,5 @@
+-- `lsm_values::tiff_type_size` meets its contract: for a code that an arm names, the definition computes. The weight lies in the other
+-- codes, 0 and those above 12: the arms that a code missed say which it isn't (`type-one`, `type-above`). Assumes nothing.
 use native.Mathlib.Omega.{arith}
 use mathlib.Core.Path.{_≡_, sym}
 use mathlib.Core.Logic.{⊎-elim, inl, inr}

@@ -1,3 +1,5 @@
+-- `lsm_values::value_place` meets its contract: in the entry (`place-in-entry`), or at the offset that `read_u32` gives or refuses
+-- (`place-by-offset`). The product fits: a size of at most 8 times a count of 32 bits. Assumes nothing.
 use Prim.Native.Nat.{_^_}
 use native.Mathlib.Nat.{mul-le-mul}
 use native.Mathlib.Omega.{arith}

@@ -1,4 +1,6 @@
--- `narrowing::magnitude` meets its contract: by the law of each range of exponents. Assumes nothing.
+-- `narrowing::magnitude` meets its contract, by the law of each range of exponents in `proofs.Double`: `pattern-subnormal`, `pattern-low`,
+-- `pattern-high`, `pattern-over`. What is left here is that the exponent's field and the digits kept have a sum that fits (`closest-le`).
+-- Assumes nothing.
 use mathlib.Core.Path.{_∙_}
 use Prim.Native.Nat.{suc, _+_, _^_, _≤_}
 use native.Mathlib.Nat.{le-trans, le-of-eq}

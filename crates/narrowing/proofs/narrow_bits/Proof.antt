@@ -1,4 +1,6 @@
--- `narrowing::narrow_bits` meets its contract: by the law of each case of the fields. Assumes nothing.
+-- `narrowing::narrow_bits` meets its contract: the weight lies in `proofs.Double`, which says what the shifted and masked fields stand
+-- for, a finite number, an infinity or a NaN. `magnitude` needs that each field is below its mask's power of 2 (`mask-lt`). Assumes
+-- nothing.
 use mathlib.Core.Path.{_∙_}
 use Prim.Native.Nat.{_/_, _^_}
 use native.Mathlib.Omega.{arith}

@@ -1,5 +1,6 @@
--- `narrowing::without_last` meets its contract: by the three ways that twice the remainder compares with the unit.
--- Assumes nothing.
+-- `narrowing::without_last` meets its contract, by the three ways that twice the remainder compares with the unit (`closest-down`,
+-- `closest-up`, `closest-tie`). The shifts and the mask are the power, the quotient and the remainder (`unit-is`, `twice-is`) since at
+-- most 54 digits go. Assumes nothing.
 use mathlib.Core.Path.{sym, ap, _∙_}
 use Prim.Native.Nat.{ℕ, _+_, _*_, _/_, _%_, _^_, _≤_}
 use native.Mathlib.Nat.{div-le-self}

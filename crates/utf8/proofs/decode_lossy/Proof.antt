@@ -1,4 +1,6 @@
--- `utf8::decode_lossy` meets its contract. Assumes nothing.
+-- `utf8::decode_lossy` meets its contract: where the text has no room nothing is written (`decoding-short`), and else `write` fills a part
+-- that is just as long as the text, and the rest stays (`decoding-room`). Both go by `lossy_length`, whose cap at 2^64 - 1 no memory
+-- reaches. Assumes nothing.
 use native.Mathlib.Omega.{arith}
 use borrow.Author.Needs.{needs}
 use lib.ListN.{length-take}

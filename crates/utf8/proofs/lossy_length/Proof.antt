@@ -1,4 +1,5 @@
--- `utf8::lossy_length` meets its contract: the text is as long as what was counted and the text from here on. Assumes nothing.
+-- `utf8::lossy_length` meets its contract. The loop's invariant: the text is as long as what was counted and the text from here on. The
+-- weight lies in a turn (`count-turn`), and in the early answer: there the text is longer than 2^64 - 1. Assumes nothing.
 use Prim.Native.Nat.{_+_, _-_, _^_, _≤_, _<_}
 use native.Mathlib.Nat.{zero-add}
 use native.Mathlib.Omega.{arith}
@@ -30,8 +31,9 @@ sub-if1 c = search needs
 
 returns : tie.Need-returns Inv-loop μ-loop
 returns c =
+    let turn = c .before .before .before .before in
     omega
-    (arith, count-turn _ _ (c .before .before .before .before .loop .total) (c .before .given-by .result) _ (c .before .before .before .loop-test .taken) (c .before .before .piece-at .ensures .is) (c .before .given-by .ensures) refl (c .before .before .before .before .loop .inv .2))
+    (arith, count-turn _ _ (turn .loop .total) (c .before .given-by .result) _ (c .before .before .before .loop-test .taken) (c .before .before .piece-at .ensures .is) (c .before .given-by .ensures) refl (turn .loop .inv .2))
 
 add-total : tie.Need-add-total Inv-loop μ-loop
 add-total c = search needs
@@ -47,7 +49,9 @@ loop-less c = search needs
 
 loop-again : tie.Need-loop-again Inv-loop μ-loop
 loop-again c =
-    (omega arith, omega arith, count-turn _ _ (c .before .before .before .before .before .loop .total) (c .before .before .given-by .result) _ (c .before .before .before .before .loop-test .taken) (c .before .before .before .piece-at .ensures .is) (c .before .before .given-by .ensures) (c .taken-by .ensures) (c .before .before .before .before .before .loop .inv .2))
+    let given = c .before .before in
+    let turn = given .before .before .before in
+    (omega arith, omega arith, count-turn _ _ (turn .loop .total) (given .given-by .result) _ (given .before .before .loop-test .taken) (given .before .piece-at .ensures .is) (given .given-by .ensures) (c .taken-by .ensures) (turn .loop .inv .2))
 
 returns-2 : tie.Need-returns-2 Inv-loop μ-loop
 returns-2 c = omega (arith, count-done _ _ _ (c .loop-test .left) (c .before .loop .inv .2))

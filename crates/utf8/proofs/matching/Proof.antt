@@ -1,4 +1,6 @@
--- `utf8::matching` meets its contract: what matches in all is what was passed and what matches from here on. Assumes nothing.
+-- `utf8::matching` meets its contract. The loop's invariant: what matches in all is what was passed and what matches from here on, where
+-- the first range is the row's and every later one 80 to BF. An answer is one of the ways in which a match ends (`follow-end`,
+-- `follow-out`, `follow-all`), and `turn` is the loop's head in it. Assumes nothing.
 use Prim.Native.Nat.{_+_, _-_, _≤_}
 use native.Mathlib.Nat.{add-zero, zero-add, sub-zero}
 use native.Mathlib.Omega.{arith}
@@ -28,7 +30,10 @@ sub-if1 : tie.Need-sub-if1 Inv-loop μ-loop
 sub-if1 c = search needs
 
 returns : tie.Need-returns Inv-loop μ-loop
-returns c = follow-end (now (c .before .before .before .args .s)) (c .before .before .before .args .from) (c .before .before .before .args .count) (c .before .before .loop .least) (c .before .before .loop .most) (c .before .before .loop .n) _ (c .before .before .loop .inv .2) (omega arith)
+returns c =
+    let turn = c .before .before in
+    let a = turn .before .args in
+    follow-end (now (a .s)) (a .from) (a .count) (turn .loop .least) (turn .loop .most) (turn .loop .n) _ (turn .loop .inv .2) (omega arith)
 
 add-b : tie.Need-add-b Inv-loop μ-loop
 add-b c = search needs
@@ -38,11 +43,17 @@ shared-slice-read-b c = search needs
 
 returns-2 : tie.Need-returns-2 Inv-loop μ-loop
 returns-2 c =
-    follow-out (now (c .before .before .before .before .before .args .s)) (c .before .before .before .before .before .args .from) (c .before .before .before .before .before .args .count) (c .before .before .before .before .loop .least) (c .before .before .before .before .loop .most) (c .before .before .before .before .loop .n) _ (c .before .before .before .before .loop .inv .2) (c .before .before .before .loop-test .taken) (omega arith) (between-below (_, _) _ (c .if2 .taken))
+    let turn = c .before .before .before .before in
+    let a = turn .before .args in
+    follow-out (now (a .s)) (a .from) (a .count) (turn .loop .least) (turn .loop .most) (turn .loop .n) _ (turn .loop .inv .2)
+    (c .before .before .before .loop-test .taken) (omega arith) (between-below (_, _) _ (c .if2 .taken))
 
 returns-3 : tie.Need-returns-3 Inv-loop μ-loop
 returns-3 c =
-    follow-out (now (c .before .before .before .before .before .before .args .s)) (c .before .before .before .before .before .before .args .from) (c .before .before .before .before .before .before .args .count) (c .before .before .before .before .before .loop .least) (c .before .before .before .before .before .loop .most) (c .before .before .before .before .before .loop .n) _ (c .before .before .before .before .before .loop .inv .2) (c .before .before .before .before .loop-test .taken) (omega arith) (between-past (_, _) _ (c .if3 .taken))
+    let turn = c .before .before .before .before .before in
+    let a = turn .before .args in
+    follow-out (now (a .s)) (a .from) (a .count) (turn .loop .least) (turn .loop .most) (turn .loop .n) _ (turn .loop .inv .2)
+    (c .before .before .before .before .loop-test .taken) (omega arith) (between-past (_, _) _ (c .if3 .taken))
 
 add-n : tie.Need-add-n Inv-loop μ-loop
 add-n c = search needs
@@ -52,10 +63,19 @@ loop-less c = search needs
 
 loop-again : tie.Need-loop-again Inv-loop μ-loop
 loop-again c =
-    (omega arith, omega arith, follow-in (now (c .before .before .before .before .before .before .args .s)) (c .before .before .before .before .before .before .args .from) (c .before .before .before .before .before .before .args .count) (c .before .before .before .before .before .loop .least) (c .before .before .before .before .before .loop .most) (c .before .before .before .before .before .loop .n) _ (c .before .before .before .before .before .loop .inv .2) (c .before .before .before .before .loop-test .taken) (omega arith) (c .before .if2 .left) (c .if3 .left))
+    let turn = c .before .before .before .before .before in
+    let a = turn .before .args in (
+      omega arith,
+      omega arith,
+      follow-in (now (a .s)) (a .from) (a .count) (turn .loop .least) (turn .loop .most) (turn .loop .n) _ (turn .loop .inv .2)
+          (c .before .before .before .before .loop-test .taken) (omega arith) (c .before .if2 .left) (c .if3 .left),
+    )
 
 returns-4 : tie.Need-returns-4 Inv-loop μ-loop
-returns-4 c = follow-all (now (c .before .before .args .s)) (c .before .before .args .from) (c .before .before .args .count) (c .before .loop .least) (c .before .loop .most) (c .before .loop .n) _ (c .before .loop .inv .2) (c .loop-test .left)
+returns-4 c =
+    let turn = c .before in
+    let a = turn .before .args in
+    follow-all (now (a .s)) (a .from) (a .count) (turn .loop .least) (turn .loop .most) (turn .loop .n) _ (turn .loop .inv .2) (c .loop-test .left)
 
 pub matching-spec : {M : Type 1} → statement M
 matching-spec =

@@ -1,4 +1,5 @@
--- `utf8::piece_at` meets its contract: the row of the first byte, and whether all that follow it match. Assumes nothing.
+-- `utf8::piece_at` meets its contract: the row of the first byte, and whether all that follow it match (`stands-none`, `stands-whole`,
+-- `stands-part`). `matching` needs that the place after the first byte is no further than the end. Assumes nothing.
 use mathlib.Core.Path.{ap, _∙_}
 use borrow.Author.Needs.{needs}
 use Rattle.utf8.specs.Pieces.{rangesOf}
@@ -29,11 +30,15 @@ returns c = stands-none _ _ (c .before .before .before .before .before .pre) (c 
 
 returns-2 : tie.Need-returns-2
 returns-2 c =
-    stands-whole _ _ (c .before .before .before .before .before .before .before .before .pre) _ _ _ _ (c .before .before .before .before .before .row-of .ensures ∙ ap rangesOf (c .before .before .before .followers .given .1)) (c .before .matching .ensures) (c .if1 .taken)
+    let row = c .before .before .before .before .before in
+    stands-whole _ _ (row .before .before .before .pre) _ _ _ _ (row .row-of .ensures ∙ ap rangesOf (c .before .before .before .followers .given .1))
+    (c .before .matching .ensures) (c .if1 .taken)
 
 returns-3 : tie.Need-returns-3
 returns-3 c =
-    stands-part _ _ (c .before .before .before .before .before .before .before .before .pre) _ _ _ _ (c .before .before .before .before .before .row-of .ensures ∙ ap rangesOf (c .before .before .before .followers .given .1)) (c .before .matching .ensures) (c .if1 .left)
+    let row = c .before .before .before .before .before in
+    stands-part _ _ (row .before .before .before .pre) _ _ _ _ (row .row-of .ensures ∙ ap rangesOf (c .before .before .before .followers .given .1))
+    (c .before .matching .ensures) (c .if1 .left)
 
 pub piece-at-spec : {M : Type 1} → statement M
 piece-at-spec =

@@ -1,4 +1,5 @@
--- `utf8::put` meets its contract: the bytes of a sequence, or U+FFFD. Assumes nothing.
+-- `utf8::put` meets its contract: the bytes of a sequence, or U+FFFD. The copier needs two parts of one length: for a sequence its bytes
+-- are in `s`, since the piece stands there, and what it gives is what it takes; for a subpart both are three. Assumes nothing.
 use native.Mathlib.Omega.{arith}
 use mathlib.Core.Path.{sym, ap, _∙_}
 use borrow.Author.Needs.{needs}

@@ -1,4 +1,5 @@
--- `utf8::write` meets its contract: what was written, then the text from here on, is the text. Assumes nothing.
+-- `utf8::write` meets its contract. The loop's invariant: what was written, then the text from here on, is the text. The weight lies in
+-- `room`: the piece at hand is a part of the text that is left, and so has room in what is left of `out`. Assumes nothing.
 use Prim.Native.Nat.{_+_, _-_, _≤_}
 use native.Mathlib.Omega.{arith}
 use mathlib.Core.List.{_++_}

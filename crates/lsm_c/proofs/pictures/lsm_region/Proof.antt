@@ -1,3 +1,5 @@
+-- `lsm_c::pictures::lsm_region` meets its contract: the words are those of what `region_by` answers, and the first is returned. Assumes
+-- nothing.
 use Rattle.lsm_c.proofs.Calls.{pictured-by}
 use borrow.Author.Needs.{needs}
 use Rattle.lsm_c.proofs.pictures.lsm_region.Statement.{statement}

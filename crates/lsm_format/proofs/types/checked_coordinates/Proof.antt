@@ -1,15 +1,20 @@
 use Rattle.lsm_format.specs.Rectangle.{coordinates}
+use native.Mathlib.Omega.{arith}
 use borrow.Author.Tests.{lt-ltb, le-ltb}
 use Rattle.lsm_format.proofs.types.checked_coordinates.Statement.{statement}
 use Rattle.lsm_format.proofs.types.checked_coordinates.Tie as tie
 
 returns : tie.Need-returns
 unfolding coordinates
-returns c = rw (le-ltb _ _ (c .if1 .taken))
+returns c =
+    let a = c .before .before .args in
+    rw (le-ltb (a .t) (a .dims .t) (omega arith))
 
 returns-2 : tie.Need-returns-2
 unfolding coordinates
-returns-2 c = rw (lt-ltb _ _ (c .before .before .if1 .left), le-ltb _ _ (c .if2 .taken))
+returns-2 c =
+    let a = c .before .before .before .before .args in
+    rw (lt-ltb (a .t) (a .dims .t) (omega arith), le-ltb (a .c) (a .dims .c) (omega arith))
 
 returns-3 : tie.Need-returns-3
 unfolding coordinates

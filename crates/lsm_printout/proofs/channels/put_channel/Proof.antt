@@ -1,4 +1,6 @@
--- `lsm_printout::channels::put_channel` meets its contract. Assumes nothing.
+-- `lsm_printout::channels::put_channel` meets its contract: what `channel` found is the channel's line (`looked-found`). The weight lies
+-- in the other arm: the channel is there and no name has more than 3,072 bytes, so it is never refused (`looked-refused`). Assumes
+-- nothing.
 use mathlib.Core.Path.{refl}
 use Rattle.lsm_printout.proofs.Names.{looked-found, looked-refused}
 use borrow.Author.Needs.{needs}
@@ -27,10 +29,17 @@ same-length : tie.Need-same-length
 same-length c = search needs
 
 returns : tie.Need-returns
-returns c = rw (looked-found (c .before .before .before .before .before .before .before .before .before .before .before .before .before .pre) refl (c .before .before .before .before .before .before .before .before .before .channel .ensures) (c .before .before .before .before .before .before .m .given .1)) at (c .before .before .put-meta .ensures)
+returns c =
+    let known = c .before .before .before .before .before .before in
+    let asked = known .before .before .before in
+    let start = asked .before .before .before .before in
+    rw (looked-found (start .pre) refl (asked .channel .ensures) (known .m .given .1)) at (c .before .before .put-meta .ensures)
 
 returns-2 : tie.Need-returns-2
-returns-2 c = absurd (looked-refused (c .before .before .before .before .before .before .before .pre) refl (c .before .before .before .channel .ensures) (c .enum-told .given .1))
+returns-2 c =
+    let asked = c .before .before .before in
+    let start = asked .before .before .before .before in
+    absurd (looked-refused (start .pre) refl (asked .channel .ensures) (c .enum-told .given .1))
 
 pub put-channel-spec : {M : Type 1} → statement M
 put-channel-spec =

@@ -1,4 +1,5 @@
--- `lsm_printout::channels::put_color` meets its contract. Assumes nothing.
+-- `lsm_printout::channels::put_color` meets its contract, by whether there is a colour: each arm is what its callee ensures. Assumes
+-- nothing.
 use borrow.Author.Needs.{needs}
 use Rattle.lsm_printout.proofs.channels.put_color.Statement.{statement}
 use Rattle.lsm_printout.proofs.channels.put_color.Tie as tie

@@ -1,4 +1,5 @@
--- `lsm_printout::channels::put_meta` meets its contract. Assumes nothing.
+-- `lsm_printout::channels::put_meta` meets its contract: colour, space, name and line's end, each put after the one before (`then`,
+-- `line`). Assumes nothing.
 use Rattle.lsm_format.specs.Printout.{channelLine}
 use Rattle.lsm_printout.proofs.Puts.{then}
 use Rattle.lsm_printout.proofs.TextLines.{line}
@@ -23,7 +24,11 @@ same-length c = search needs
 
 returns : tie.Need-returns
 unfolding channelLine
-returns c = line _ (then (then (then (c .before .before .before .before .before .before .before .before .before .before .before .before .before .before .put-color .ensures) (c .before .before .before .before .before .before .before .before .before .before .put-byte .ensures)) (c .before .before .before .before .before .before .put-name .ensures)) (c .before .before .put-byte2 .ensures))
+returns c =
+    let name = c .before .before .before .before .before .before in
+    let space = name .before .before .before .before in
+    let color = space .before .before .before .before in
+    line _ (then (then (then (color .put-color .ensures) (space .put-byte .ensures)) (name .put-name .ensures)) (c .before .before .put-byte2 .ensures))
 
 pub put-meta-spec : {M : Type 1} → statement M
 put-meta-spec =

@@ -1,4 +1,5 @@
--- `lsm_printout::channels::put_name` meets its contract. Assumes nothing.
+-- `lsm_printout::channels::put_name` meets its contract, by whether there is a name. Where the length passes the bytes lent, all of them
+-- are the name: the definition takes no more either (`hex-all`). Assumes nothing.
 use mathlib.Core.Path.{sym}
 use lib.Seq.{length-take-le}
 use Rattle.lsm_printout.proofs.Numbers.{hex-all}
@@ -29,7 +30,10 @@ same-length : tie.Need-same-length
 same-length c = search needs
 
 returns : tie.Need-returns
-returns c = rw (c .before .before .before .before .before .before .before .before .before .before .before .n .given .1) (then (c .before .before .before .before .before .before .before .before .put-byte2 .ensures) (c .before .before .put-hex-bytes .ensures))
+returns c =
+    let sign = c .before .before .before .before .before .before .before .before in
+    let known = sign .before .before .before in
+    rw (known .n .given .1) (then (sign .put-byte2 .ensures) (c .before .before .put-hex-bytes .ensures))
 
 put-hex-bytes-requires-2 : tie.Need-put-hex-bytes-requires-2
 put-hex-bytes-requires-2 c κs = search needs
@@ -44,7 +48,11 @@ same-length-3 : tie.Need-same-length-3
 same-length-3 c = search needs
 
 returns-3 : tie.Need-returns-3
-returns-3 c = rw (c .before .before .before .before .before .before .before .before .before .before .n .given .1) (then (c .before .before .before .before .before .before .before .put-byte2 .ensures) (same (hex-all _ _ (c .before .before .before .before .if1 .left)) (c .before .before .put-hex-bytes2 .ensures)))
+returns-3 c =
+    let test = c .before .before .before .before in
+    let sign = test .before .before .before in
+    let known = sign .before .before .before in
+    rw (known .n .given .1) (then (sign .put-byte2 .ensures) (same (hex-all _ _ (test .if1 .left)) (c .before .before .put-hex-bytes2 .ensures)))
 
 pub put-name-spec : {M : Type 1} → statement M
 put-name-spec =

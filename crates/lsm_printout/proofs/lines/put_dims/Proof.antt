@@ -1,4 +1,5 @@
--- `lsm_printout::lines::put_dims` meets its contract. Assumes nothing.
+-- `lsm_printout::lines::put_dims` meets its contract: a word, five numbers and a line's end, each put after the one before (`then`,
+-- `line`). Assumes nothing.
 use Rattle.lsm_printout.proofs.Puts.{then}
 use Rattle.lsm_printout.proofs.TextLines.{line}
 use Rattle.lsm_format.specs.Printout.{dimsLine}
@@ -35,7 +36,14 @@ same-length c = search needs
 
 returns : tie.Need-returns
 unfolding dimsLine
-returns c = line _ (then (then (then (then (then (then (c .before .before .before .before .before .before .before .before .before .before .before .before .before .before .before .before .before .before .before .before .before .before .before .before .before .before .put-bytes .ensures) (c .before .before .before .before .before .before .before .before .before .before .before .before .before .before .before .before .before .before .before .before .before .before .put-spaced .ensures)) (c .before .before .before .before .before .before .before .before .before .before .before .before .before .before .before .before .before .before .put-spaced2 .ensures)) (c .before .before .before .before .before .before .before .before .before .before .before .before .before .before .put-spaced3 .ensures)) (c .before .before .before .before .before .before .before .before .before .before .put-spaced4 .ensures)) (c .before .before .before .before .before .before .put-spaced5 .ensures)) (c .before .before .put-byte .ensures))
+returns c =
+    let width = c .before .before .before .before .before .before in
+    let height = width .before .before .before .before in
+    let depth = height .before .before .before .before in
+    let channels = depth .before .before .before .before in
+    let time = channels .before .before .before .before in
+    let word = time .before .before .before .before in
+    line _ (then (then (then (then (then (then (word .put-bytes .ensures) (time .put-spaced .ensures)) (channels .put-spaced2 .ensures)) (depth .put-spaced3 .ensures)) (height .put-spaced4 .ensures)) (width .put-spaced5 .ensures)) (c .before .before .put-byte .ensures))
 
 pub put-dims-spec : {M : Type 1} → statement M
 put-dims-spec =

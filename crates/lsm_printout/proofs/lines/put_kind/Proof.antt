@@ -1,4 +1,5 @@
--- `lsm_printout::lines::put_kind` meets its contract. Assumes nothing.
+-- `lsm_printout::lines::put_kind` meets its contract: a word, the number that `kind_number` ensures and a line's end, each put after the
+-- one before (`then`, `line`). Assumes nothing.
 use Rattle.lsm_printout.proofs.Puts.{then}
 use Rattle.lsm_printout.proofs.TextLines.{line}
 use Rattle.lsm_format.specs.Printout.{kindLine}
@@ -26,7 +27,11 @@ same-length c = search needs
 
 returns : tie.Need-returns
 unfolding kindLine
-returns c = line _ (then (then (c .before .before .before .before .before .before .before .before .before .before .before .put-bytes .ensures) (rw (c .before .before .before .before .before .before .before .kind-number .ensures) at (c .before .before .before .before .before .before .put-spaced .ensures))) (c .before .before .put-byte .ensures))
+returns c =
+    let number = c .before .before .before .before .before .before in
+    let kind = number .before in
+    let word = kind .before .before .before .before in
+    line _ (then (then (word .put-bytes .ensures) (rw (kind .kind-number .ensures) at (number .put-spaced .ensures))) (c .before .before .put-byte .ensures))
 
 pub put-kind-spec : {M : Type 1} → statement M
 put-kind-spec =

@@ -1,4 +1,5 @@
--- `lsm_printout::lines::put_numbers` meets its contract. Assumes nothing.
+-- `lsm_printout::lines::put_numbers` meets its contract. The loop's invariant: the text of the numbers before `i` is put. A turn puts one
+-- number more (`numbers-next`); the measure is what is left of the row. Assumes nothing.
 use Prim.Native.Nat.{_≤_, _-_}
 use mathlib.Core.Path.{_≡_, sym, ap}
 use lib.ListN.{length, take}

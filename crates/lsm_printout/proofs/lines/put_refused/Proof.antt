@@ -1,4 +1,5 @@
--- `lsm_printout::lines::put_refused` meets its contract. Assumes nothing.
+-- `lsm_printout::lines::put_refused` meets its contract: a word, the row's numbers and a line's end. The weight lies in `row-front`: the
+-- row is the front of an array of five, its length is at most five, and so it may be lent. Assumes nothing.
 use mathlib.Core.Path.{ap}
 use Rattle.lsm_format.specs.Printout.{refusedLine, numbersText}
 use Rattle.lsm_printout.proofs.Puts.{then, same}
@@ -18,10 +19,14 @@ put-bytes-requires : tie.Need-put-bytes-requires
 put-bytes-requires c κs = search needs
 
 array-share-prefix-numbers : tie.Need-array-share-prefix-numbers
-array-share-prefix-numbers c = row-front (c .before .before .before .before .before .before .before .numbers .ensures) .room
+array-share-prefix-numbers c =
+    let row = c .before .before .before .before .before .before .before in
+    row-front (row .numbers .ensures) .room
 
 slice-aggregate-put-numbers : tie.Need-slice-aggregate-put-numbers
-slice-aggregate-put-numbers c = row-front (c .before .before .before .before .before .before .before .before .numbers .ensures) .count
+slice-aggregate-put-numbers c =
+    let row = c .before .before .before .before .before .before .before .before in
+    row-front (row .numbers .ensures) .count
 
 put-numbers-requires : tie.Need-put-numbers-requires
 put-numbers-requires c κs = search needs
@@ -34,7 +39,11 @@ same-length c = search needs
 
 returns : tie.Need-returns
 unfolding refusedLine
-returns c = line _ (then (then (c .before .before .before .before .before .before .before .before .before .before .before .put-bytes .ensures) (same (ap numbersText (row-front (c .before .before .before .before .before .before .before .before .before .before .before .before .before .before .before .numbers .ensures) .first)) (c .before .before .before .before .before .before .put-numbers .ensures))) (c .before .before .put-byte .ensures))
+returns c =
+    let said = c .before .before .before .before .before .before in
+    let word = said .before .before .before .before .before in
+    let row = word .before .before .before .before in
+    line _ (then (then (word .put-bytes .ensures) (same (ap numbersText (row-front (row .numbers .ensures) .first)) (said .put-numbers .ensures))) (c .before .before .put-byte .ensures))
 
 pub put-refused-spec : {M : Type 1} → statement M
 put-refused-spec =

@@ -1,4 +1,5 @@
--- `lsm_printout::lines::put_scene` meets its contract. Assumes nothing.
+-- `lsm_printout::lines::put_scene` meets its contract, by whether the scene is alone (`scene-one`, `scene-several`). The number is one
+-- more than the scene's, which fits since it is below the scenes' number. Assumes nothing.
 use mathlib.Core.Path.{sym, ap}
 use mathlib.Core.List.{List, [], _∷_, _++_}
 use Prim.Native.Nat.{ℕ}
@@ -19,7 +20,9 @@ same-length : tie.Need-same-length
 same-length c = search needs
 
 returns : tie.Need-returns
-returns c = line _ (same (ap (λ (l : List ℕ). l ++ 10 ∷ []) (sym (scene-one _ _ (c .before .before .before .before .before .if1 .taken)))) (c .before .before .put-bytes .ensures))
+returns c =
+    let test = c .before .before .before .before .before in
+    line _ (same (ap (λ (l : List ℕ). l ++ 10 ∷ []) (sym (scene-one _ _ (test .if1 .taken)))) (c .before .before .put-bytes .ensures))
 
 slice-aggregate-put-bytes-2 : tie.Need-slice-aggregate-put-bytes-2
 slice-aggregate-put-bytes-2 c = search needs
@@ -40,7 +43,11 @@ same-length-2 : tie.Need-same-length-2
 same-length-2 c = search needs
 
 returns-2 : tie.Need-returns-2
-returns-2 c = line _ (same (ap (λ (l : List ℕ). l ++ 10 ∷ []) (sym (scene-several _ _ (c .before .before .before .before .before .before .before .before .before .before .before .before .before .if1 .left)))) (then (then (c .before .before .before .before .before .before .before .before .before .before .put-bytes2 .ensures) (c .before .before .before .before .before .before .put-decimal .ensures)) (c .before .before .put-byte .ensures)))
+returns-2 c =
+    let number = c .before .before .before .before .before .before in
+    let word = number .before .before .before .before in
+    let test = word .before .before .before in
+    line _ (same (ap (λ (l : List ℕ). l ++ 10 ∷ []) (sym (scene-several _ _ (test .if1 .left)))) (then (then (word .put-bytes2 .ensures) (number .put-decimal .ensures)) (c .before .before .put-byte .ensures)))
 
 pub put-scene-spec : {M : Type 1} → statement M
 put-scene-spec =

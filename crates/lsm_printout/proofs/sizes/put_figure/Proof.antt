@@ -1,4 +1,5 @@
--- `lsm_printout::sizes::put_figure` meets its contract. Assumes nothing.
+-- `lsm_printout::sizes::put_figure` meets its contract: the figure is the front of an array of eight (`figure-front`), its length is at
+-- most eight, and so it may be lent. Assumes nothing.
 use Rattle.lsm_printout.proofs.Puts.{same}
 use Rattle.lsm_printout.proofs.Notes.{figure-front}
 use borrow.Author.Needs.{needs}

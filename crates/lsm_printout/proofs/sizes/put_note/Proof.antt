@@ -17,7 +17,10 @@ same-length : tie.Need-same-length
 same-length c = search needs
 
 returns : tie.Need-returns
-returns c = then (then (c .before .before .before .before .before .before .before .before .before .before .put-bytes .ensures) (c .before .before .before .before .before .before .put-figure .ensures)) (c .before .before .put-byte .ensures)
+returns c =
+    let figure = c .before .before .before .before .before .before in
+    let said = figure .before .before .before .before in
+    then (then (said .put-bytes .ensures) (figure .put-figure .ensures)) (c .before .before .put-byte .ensures)
 
 pub put-note-spec : {M : Type 1} → statement M
 put-note-spec =

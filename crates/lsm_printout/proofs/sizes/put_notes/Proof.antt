@@ -1,4 +1,5 @@
--- `lsm_printout::sizes::put_notes` meets its contract. Assumes nothing.
+-- `lsm_printout::sizes::put_notes` meets its contract, by whether there is a pixel size: without one the text is `notes 0`, and else that
+-- of the step. Assumes nothing.
 use Rattle.lsm_format.specs.Printout.{text, noteLines}
 use borrow.Author.Needs.{needs}
 use Rattle.lsm_printout.proofs.sizes.put_notes.Statement.{statement}

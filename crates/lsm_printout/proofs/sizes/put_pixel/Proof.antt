@@ -1,4 +1,5 @@
--- `lsm_printout::sizes::put_pixel` meets its contract. Assumes nothing.
+-- `lsm_printout::sizes::put_pixel` meets its contract: a word, the sizes and a line's end, each put after the one before (`then`, `line`).
+-- Assumes nothing.
 use Rattle.lsm_printout.proofs.Puts.{then}
 use Rattle.lsm_printout.proofs.TextLines.{line}
 use Rattle.lsm_format.specs.Printout.{pixelLine}
@@ -23,7 +24,10 @@ same-length c = search needs
 
 returns : tie.Need-returns
 unfolding pixelLine
-returns c = line _ (then (then (c .before .before .before .before .before .before .before .before .before .before .put-bytes .ensures) (c .before .before .before .before .before .before .put-sizes .ensures)) (c .before .before .put-byte .ensures))
+returns c =
+    let sizes = c .before .before .before .before .before .before in
+    let word = sizes .before .before .before .before in
+    line _ (then (then (word .put-bytes .ensures) (sizes .put-sizes .ensures)) (c .before .before .put-byte .ensures))
 
 pub put-pixel-spec : {M : Type 1} → statement M
 put-pixel-spec =

@@ -1,4 +1,5 @@
--- `lsm_printout::sizes::put_size` meets its contract. Assumes nothing.
+-- `lsm_printout::sizes::put_size` meets its contract: a number that differs from itself is a NaN and has no bits to print (`size-nan`);
+-- any other has the bits that its text is made of (`size-number`). Assumes nothing.
 use mathlib.Core.Path.{sym}
 use Rattle.calibration.proofs.Steps.{step-number}
 use Rattle.lsm_printout.proofs.Puts.{same}

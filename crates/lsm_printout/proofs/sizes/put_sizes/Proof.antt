@@ -1,4 +1,5 @@
--- `lsm_printout::sizes::put_sizes` meets its contract. Assumes nothing.
+-- `lsm_printout::sizes::put_sizes` meets its contract, by whether there is a pixel size; where there is one, X, Y and Z with a space
+-- between, each put after the one before (`then`). Assumes nothing.
 use Rattle.lsm_printout.proofs.Puts.{then}
 use borrow.Author.Needs.{needs}
 use Rattle.lsm_printout.proofs.sizes.put_sizes.Statement.{statement}
@@ -41,7 +42,13 @@ same-length-2 : tie.Need-same-length-2
 same-length-2 c = search needs
 
 returns-2 : tie.Need-returns-2
-returns-2 c = rw (c .before .before .before .before .before .before .before .before .before .before .before .before .before .before .before .before .before .before .before .before .before .k .given .1) (then (then (then (then (c .before .before .before .before .before .before .before .before .before .before .before .before .before .before .before .before .before .before .put-size .ensures) (c .before .before .before .before .before .before .before .before .before .before .before .before .before .before .put-byte .ensures)) (c .before .before .before .before .before .before .before .before .before .before .put-size2 .ensures)) (c .before .before .before .before .before .before .put-byte2 .ensures)) (c .before .before .put-step .ensures))
+returns-2 c =
+    let last = c .before .before .before .before .before .before in
+    let second = last .before .before .before .before in
+    let between = second .before .before .before .before in
+    let first = between .before .before .before .before in
+    let known = first .before .before .before in
+    rw (known .k .given .1) (then (then (then (then (first .put-size .ensures) (between .put-byte .ensures)) (second .put-size2 .ensures)) (last .put-byte2 .ensures)) (c .before .before .put-step .ensures))
 
 pub put-sizes-spec : {M : Type 1} → statement M
 put-sizes-spec =

@@ -1,4 +1,5 @@
--- `lsm_printout::sizes::put_step` meets its contract. Assumes nothing.
+-- `lsm_printout::sizes::put_step` meets its contract, by the kind of step: only one that is used has bits, and the others are a dash.
+-- Assumes nothing.
 use borrow.Author.Needs.{needs}
 use Rattle.lsm_printout.proofs.sizes.put_step.Statement.{statement}
 use Rattle.lsm_printout.proofs.sizes.put_step.Tie as tie

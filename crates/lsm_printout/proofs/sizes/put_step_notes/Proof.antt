@@ -1,4 +1,5 @@
--- `lsm_printout::sizes::put_step_notes` meets its contract. Assumes nothing.
+-- `lsm_printout::sizes::put_step_notes` meets its contract, by the kind of step. The weight lies in the two notes (`note-placeholder`,
+-- `note-large`): two lines of the definition are put as one text. Assumes nothing.
 use Rattle.lsm_format.specs.Printout.{text}
 use Rattle.lsm_printout.proofs.Notes.{note-placeholder, note-large}
 use borrow.Author.Needs.{needs}

@@ -1,4 +1,5 @@
--- `lsm_printout::text::put_decimal` meets its contract. It calls itself at `n / 10`, so its measure is `n`. Assumes nothing.
+-- `lsm_printout::text::put_decimal` meets its contract. It calls itself at `n / 10`, so its measure is `n`. The digits before the last are
+-- those of `n / 10`, and the last is added to them as the definition does. Assumes nothing.
 use mathlib.Core.Path.{sym}
 use borrow.Author.Needs.{needs}
 use Rattle.lsm_printout.proofs.Puts.{then, same}

@@ -1,4 +1,5 @@
--- `lsm_printout::text::put_hex` meets its contract. It calls itself at one digit less, so its measure is `digits`. Assumes nothing.
+-- `lsm_printout::text::put_hex` meets its contract. It calls itself at one digit less, so its measure is `digits`. Without a digit there
+-- is no text (`hex-none`), and else the digits of `n / 16` and the one of `n % 16` (`hex-more`). Assumes nothing.
 use mathlib.Core.Path.{sym}
 use borrow.Author.Needs.{needs}
 use Rattle.lsm_printout.proofs.Puts.{nothing, then, same}
@@ -91,7 +92,11 @@ put-hex-returns-2 : (t : ℕ) → put-hex-lts.Need-returns-2 (
   put-byte-reads.Asked,
   put-byte-reads.Learnt,
 ) (put-hex-at t) put-hex.Post
-put-hex-returns-2 t c = same (sym (hex-more _ _ (c .before .before .before .before .before .before .before .before .before .if1 .left))) (then (c .before .before .before .before .before .before .before .put-hex .ensures) (rw (c .before .before .before .hex-digit .ensures) at (c .before .before .put-byte .ensures)))
+put-hex-returns-2 t c =
+    let digit = c .before .before .before in
+    let digits = digit .before .before .before .before in
+    let test = digits .before .before in
+    same (sym (hex-more _ _ (test .if1 .left))) (then (digits .put-hex .ensures) (rw (digit .hex-digit .ensures) at (c .before .before .put-byte .ensures)))
 
 pub +put-hex-spec : {M : Type 1} → statement M
 +put-hex-spec = close μ-put-hex λ t. put-hex-lts.spec (

@@ -1,6 +1,7 @@
 use mathlib.Core.Path.{sym, ap, _∙_}
+use native.Mathlib.Omega.{arith}
 use borrow.Author.Tests.{le-leb, lt-leb}
-use Rattle.lsm_format.specs.Sizes.{pictureSize}
+use Rattle.lsm_format.specs.Sizes.{pictureLimit, pictureSize}
 use Rattle.lsm_format.specs.Code.{bytesOf}
 use Rattle.lsm_format.specs.Answer.{bind}
 use borrow.Author.Needs.{needs}
@@ -18,11 +19,15 @@ enum-known-r c = search needs
 
 returns : tie.Need-returns
 unfolding pictureSize bind
-returns c = rw (sym (c .before .before .before .before .plane-bytes-no-ceiling .ensures) ∙ ap bytesOf (c .before .before .bytes .given .1), le-leb _ _ (c .if1 .taken))
+returns c =
+    let known = c .before .before in
+    rw (sym (known .before .before .plane-bytes-no-ceiling .ensures) ∙ ap bytesOf (known .bytes .given .1), le-leb (known .bytes .given .0 .0) pictureLimit (omega arith))
 
 returns-2 : tie.Need-returns-2
 unfolding pictureSize bind
-returns-2 c = rw (sym (c .before .before .before .before .plane-bytes-no-ceiling .ensures) ∙ ap bytesOf (c .before .before .bytes .given .1), lt-leb _ _ (c .if1 .left))
+returns-2 c =
+    let known = c .before .before in
+    rw (sym (known .before .before .plane-bytes-no-ceiling .ensures) ∙ ap bytesOf (known .bytes .given .1), lt-leb (known .bytes .given .0 .0) pictureLimit (omega arith))
 
 returns-3 : tie.Need-returns-3
 unfolding pictureSize bind
