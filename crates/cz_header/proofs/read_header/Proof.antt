@@ -2,7 +2,8 @@
 use Rattle.lsm_format.specs.CzInfo.{blockLength}
 use Rattle.lsm_bytes.specs.Code.{i32Of}
 use Rattle.lsm_format.proofs.CzInfo.{header-past, header-short, header-cut, header-no-magic, header-other, header-no-size, header-small, header-is}
-use Rattle.cz_header.proofs.Told.{told, back, is-magic, not-magic}
+use Rattle.lsm_format.proofs.Told.{told, back}
+use Rattle.cz_header.proofs.Magic.{is-magic, not-magic}
 use mathlib.Core.Path.{ap, _∙_}
 use borrow.Author.Needs.{needs}
 use Rattle.cz_header.proofs.read_header.Statement.{statement}

@@ -1,4 +1,4 @@
--- What a call told of its answer, and signed numbers, which go by their bits. Assumes nothing.
+-- The magic number, which the code tests by its bits. Assumes nothing.
 use mathlib.Core.Path.{_≡_, refl, sym, ap, _∙_}
 use mathlib.Core.Bool.{true, false}
 use Prim.Native.Nat.{ℕ, _^_, _<_}
@@ -7,15 +7,8 @@ use lib.Signed.{mag}
 use borrow.Author.Tests.{ne-eqb}
 use mir.Syntax.{w32}
 use mir.Val.{toZ, ofZ}
-use mir.ValLaws.{toZ-ofZ}
 use Rattle.lsm_format.specs.CzInfo.{isMagic}
-
--- a map of an answer, once the answer is known
-pub told : {A B : Type 0} (g : A → B) {r v : A} {m : B} → g r ≡ m → r ≡ v → m ≡ g v
-told g e v = sym e ∙ ap g v
-
-pub back : (z : ℤ) → mag z < 2 ^ 31 → toZ w32 (ofZ w32 z) ≡ z
-back z h = toZ-ofZ w32 z (record { sfits = h })
+use Rattle.lsm_format.proofs.Told.{back}
 
 pub is-magic : (z : ℤ) → mag z < 2 ^ 31 → ofZ w32 z ≡ 0x0400_494C → isMagic z ≡ true
 is-magic z h e = ap isMagic (sym (back z h) ∙ ap (toZ w32) e)
