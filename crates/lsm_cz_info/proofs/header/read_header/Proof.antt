@@ -1,13 +1,13 @@
--- `cz_header::read_header` meets its contract, by the tests that led to each answer. Assumes nothing.
+-- `lsm_cz_info::header::read_header` meets its contract, by the tests that led to each answer. Assumes nothing.
 use Rattle.lsm_format.specs.CzInfo.{blockLength}
 use Rattle.lsm_bytes.specs.Code.{i32Of}
 use Rattle.lsm_format.proofs.CzInfo.{header-past, header-short, header-cut, header-no-magic, header-other, header-no-size, header-small, header-is}
 use Rattle.lsm_format.proofs.Told.{told, back}
-use Rattle.cz_header.proofs.Magic.{is-magic, not-magic}
+use Rattle.lsm_cz_info.proofs.Magic.{is-magic, not-magic}
 use mathlib.Core.Path.{ap, _∙_}
 use borrow.Author.Needs.{needs}
-use Rattle.cz_header.proofs.read_header.Statement.{statement}
-use Rattle.cz_header.proofs.read_header.Tie as tie
+use Rattle.lsm_cz_info.proofs.header.read_header.Statement.{statement}
+use Rattle.lsm_cz_info.proofs.header.read_header.Tie as tie
 
 returns : tie.Need-returns
 returns c = header-past _ _ _ _ (c .if1 .taken)

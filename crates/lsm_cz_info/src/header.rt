@@ -6,7 +6,7 @@ use lsm_format::types::Endian;
 ghost use mathlib.Core.Path.{_≡_};
 ghost use Rattle.lsm_format.specs.Code.{orderOf};
 ghost use Rattle.lsm_format.specs.CzInfo.{blockLength, header};
-ghost use Rattle.cz_header.specs.Code.{lengthOf};
+ghost use Rattle.lsm_cz_info.specs.Header.{lengthOf};
 
 // What every block starts with.
 const MAGIC: i32 = 0x0400_494C;
@@ -19,7 +19,7 @@ const SIZE_AT: usize = 4;
 // The least length of a block: its dimensions end here.
 const DIMENSIONS_END: usize = 28;
 
-pub enum LengthAnswer {
+pub(crate) enum LengthAnswer {
     Length(usize),
     Refused(Refusal),
 }
@@ -36,7 +36,7 @@ fn block_length(declared: usize, size: i32) -> usize
 }
 
 // The block's length, once the block is known to be one.
-pub fn read_header(buf: &[u8], block: usize, declared: usize, e: Endian) -> LengthAnswer
+pub(crate) fn read_header(buf: &[u8], block: usize, declared: usize, e: Endian) -> LengthAnswer
     ensures { λ r. ⌜ lengthOf r ≡ header (orderOf e) (now (buf .entry)) block declared ⌝ }
 {
     if buf.len() < block {

@@ -1,11 +1,11 @@
--- `cz_header::block_length` meets its contract. Assumes nothing.
+-- `lsm_cz_info::header::block_length` meets its contract. Assumes nothing.
 use native.Mathlib.Omega.{arith}
 use lib.Signed.{natAbs-le}
 use mir.ValLaws.{toZ-ofZ}
 use mir.Syntax.{w32}
 use Rattle.lsm_format.proofs.CzInfo.{is-positive, positive-natural, natural-nonneg, length-declared, length-stated, length-smaller}
-use Rattle.cz_header.proofs.block_length.Statement.{statement}
-use Rattle.cz_header.proofs.block_length.Tie as tie
+use Rattle.lsm_cz_info.proofs.header.block_length.Statement.{statement}
+use Rattle.lsm_cz_info.proofs.header.block_length.Tie as tie
 
 returns : tie.Need-returns
 returns c =
