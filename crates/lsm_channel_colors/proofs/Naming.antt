@@ -10,8 +10,8 @@ use lib.ListN.{length}
 use Rattle.lsm_format.specs.Numbers.{Order}
 use Rattle.lsm_format.specs.Channels.{recordOf, nameSpan}
 use Rattle.lsm_format.proofs.Channels.{span-past, span-none, span-long, span-given}
-use Rattle.channel_tables.specs.Parts.{pointed}
-use Rattle.channel_tables.proofs.Signed.{pointed-is}
+use Rattle.lsm_channel_colors.specs.Tables.{pointed}
+use Rattle.lsm_channel_colors.proofs.Signed.{pointed-is}
 
 module _ (o : Order) (f : List ℕ) (block : ℕ) (z : ℤ) (channel n : ℕ) (e : pointed z ≡ some n) where
   pub named-past : length f < block + n → none ≡ nameSpan o f block z channel

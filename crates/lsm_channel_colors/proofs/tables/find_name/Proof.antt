@@ -1,14 +1,14 @@
--- `channel_tables::find_name` meets its contract: at each `return` the tests that led there say which case of `nameSpan` holds.
+-- `lsm_channel_colors::tables::find_name` meets its contract: at each `return` the tests that led there say which case of `nameSpan` holds.
 -- Assumes nothing.
 use native.Mathlib.Omega.{arith}
 use mathlib.Core.Path.{sym, ap, _∙_}
 use borrow.Author.Needs.{needs}
 use Rattle.lsm_format.proofs.Words.{told-value, told-overflow, word-some, word-none}
-use Rattle.channel_tables.specs.Parts.{spanOf}
-use Rattle.channel_tables.proofs.Signed.{pointed-told, no-names}
-use Rattle.channel_tables.proofs.Naming.{named-past, named-none, named-long, named-given}
-use Rattle.channel_tables.proofs.find_name.Statement.{statement}
-use Rattle.channel_tables.proofs.find_name.Tie as tie
+use Rattle.lsm_channel_colors.specs.Tables.{spanOf}
+use Rattle.lsm_channel_colors.proofs.Signed.{pointed-told, no-names}
+use Rattle.lsm_channel_colors.proofs.Naming.{named-past, named-none, named-long, named-given}
+use Rattle.lsm_channel_colors.proofs.tables.find_name.Statement.{statement}
+use Rattle.lsm_channel_colors.proofs.tables.find_name.Tie as tie
 
 table-of-requires : tie.Need-table-of-requires
 table-of-requires c κs = search needs

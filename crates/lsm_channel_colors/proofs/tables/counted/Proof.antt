@@ -1,11 +1,11 @@
--- `channel_tables::counted` meets its contract. Assumes nothing.
+-- `lsm_channel_colors::tables::counted` meets its contract. Assumes nothing.
 use native.Mathlib.Omega.{arith}
 use lib.Signed.{natAbs-le}
 use mir.ValLaws.{toZ-ofZ}
 use mir.Syntax.{w32}
-use Rattle.channel_tables.proofs.Signed.{natural-none, not-below, natural-some}
-use Rattle.channel_tables.proofs.counted.Statement.{statement}
-use Rattle.channel_tables.proofs.counted.Tie as tie
+use Rattle.lsm_channel_colors.proofs.Signed.{natural-none, not-below, natural-some}
+use Rattle.lsm_channel_colors.proofs.tables.counted.Statement.{statement}
+use Rattle.lsm_channel_colors.proofs.tables.counted.Tie as tie
 
 cast-t4 : tie.Need-cast-t4
 cast-t4 c =

@@ -7,7 +7,7 @@ use lsm_format::types::Endian;
 ghost use mathlib.Core.Path.{_≡_};
 ghost use Rattle.lsm_format.specs.Channels.{pointers, nameRecord, recordOf, nameSpan};
 ghost use Rattle.lsm_format.specs.Code.{orderOf};
-ghost use Rattle.channel_tables.specs.Parts.{natural, pointed, countOf, pointersOf, spanOf};
+ghost use Rattle.lsm_channel_colors.specs.Tables.{natural, pointed, countOf, pointersOf, spanOf};
 
 // Where in the block the two pointers stand: to the colours and to the names.
 const TABLE_POINTERS: usize = 12;
@@ -16,19 +16,19 @@ const TABLE_POINTERS: usize = 12;
 const MAX_NAME_BYTES: usize = 1024;
 
 // A signed number that can be used, or that there is none.
-pub enum Count {
+pub(crate) enum Count {
     Value(usize),
     Nothing,
 }
 
 // The two pointers, counted from the block.
-pub enum Pointers {
+pub(crate) enum Pointers {
     Absent,
     At { colors: i32, names: i32 },
 }
 
 // A name's record: where its bytes start and how many they are.
-pub enum Record {
+pub(crate) enum Record {
     Absent,
     At { start: usize, len: usize },
 }
@@ -45,7 +45,7 @@ fn counted(n: i32) -> Count
 }
 
 // A pointer: 0 and below point to nothing.
-pub fn table_of(pointer: i32) -> Count
+pub(crate) fn table_of(pointer: i32) -> Count
     ensures { λ r. ⌜ countOf r ≡ pointed pointer ⌝ }
 {
     let Count::Value(n) = counted(pointer) else {
@@ -59,7 +59,7 @@ pub fn table_of(pointer: i32) -> Count
 }
 
 // The two pointers, where all eight bytes are in the file.
-pub fn read_pointers(buf: &[u8], block: usize, endian: Endian) -> Pointers
+pub(crate) fn read_pointers(buf: &[u8], block: usize, endian: Endian) -> Pointers
     ensures { λ r. ⌜ pointersOf r ≡ pointers (orderOf endian) (now (buf .entry)) block ⌝ }
 {
     if buf.len() < TABLE_POINTERS + 8 {
@@ -115,7 +115,13 @@ fn find_record(buf: &[u8], first: usize, endian: Endian, channel: usize) -> Reco
 }
 
 // Where the bytes of a channel's name stand, if it has one that is given. Only this channel's name is held to the longest.
-pub fn find_name(buf: &[u8], block: usize, names: i32, endian: Endian, channel: usize) -> Record
+pub(crate) fn find_name(
+    buf: &[u8],
+    block: usize,
+    names: i32,
+    endian: Endian,
+    channel: usize,
+) -> Record
     ensures { λ r. ⌜ spanOf r ≡ nameSpan (orderOf endian) (now (buf .entry)) block names channel ⌝ }
 {
     let Count::Value(table) = table_of(names) else {

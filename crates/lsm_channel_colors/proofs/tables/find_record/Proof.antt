@@ -1,13 +1,13 @@
--- `channel_tables::find_record` meets its contract: the record of the channel from the first place is that of the channels left from here. Assumes nothing.
+-- `lsm_channel_colors::tables::find_record` meets its contract: the record of the channel from the first place is that of the channels left from here. Assumes nothing.
 use native.Mathlib.Omega.{arith}
 use mathlib.Core.Path.{_≡_, refl, sym, ap, _∙_}
 use borrow.Author.Needs.{needs}
 use Rattle.lsm_format.specs.Code.{orderOf}
 use Rattle.lsm_format.specs.Channels.{recordOf}
 use Rattle.lsm_format.proofs.Channels.{record-last, record-ends, record-next, record-inside}
-use Rattle.channel_tables.specs.Parts.{spanOf}
-use Rattle.channel_tables.proofs.find_record.Statement.{statement}
-use Rattle.channel_tables.proofs.find_record.Tie as tie
+use Rattle.lsm_channel_colors.specs.Tables.{spanOf}
+use Rattle.lsm_channel_colors.proofs.tables.find_record.Statement.{statement}
+use Rattle.lsm_channel_colors.proofs.tables.find_record.Tie as tie
 
 abbrev Inv-loop : tie.InvT-loop
 Inv-loop buf first endian channel place₀ left₀ place left = recordOf (orderOf endian) buf first channel ≡ recordOf (orderOf endian) buf place left

@@ -1,9 +1,9 @@
--- `channel_tables::table_of` meets its contract. Assumes nothing.
+-- `lsm_channel_colors::tables::table_of` meets its contract. Assumes nothing.
 use native.Mathlib.Omega.{arith}
 use borrow.Author.Needs.{needs}
-use Rattle.channel_tables.proofs.Signed.{natural-told, pointed-negative, pointed-zero, pointed-some}
-use Rattle.channel_tables.proofs.table_of.Statement.{statement}
-use Rattle.channel_tables.proofs.table_of.Tie as tie
+use Rattle.lsm_channel_colors.proofs.Signed.{natural-told, pointed-negative, pointed-zero, pointed-some}
+use Rattle.lsm_channel_colors.proofs.tables.table_of.Statement.{statement}
+use Rattle.lsm_channel_colors.proofs.tables.table_of.Tie as tie
 
 counted-requires : tie.Need-counted-requires
 counted-requires c κs = search needs

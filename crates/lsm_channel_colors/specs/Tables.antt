@@ -3,12 +3,12 @@ use Prim.Native.Nat.{ℕ, zero, suc}
 use mathlib.Core.Option.{Option, none, some}
 use lib.IntN.{ℤ, pos, negsuc}
 use Rattle.lsm_format.specs.Answer.{Result, accepted, refused, parse}
-use Rattle.channel_tables.specs.declared.Count.{Count}
-use Rattle.channel_tables.specs.declared.Count.the-variants.{Value, Nothing}
-use Rattle.channel_tables.specs.declared.Pointers.{Pointers}
-use Rattle.channel_tables.specs.declared.Pointers.the-variants.{Absent as NoPointers, At as PointersAt}
-use Rattle.channel_tables.specs.declared.Record.{Record}
-use Rattle.channel_tables.specs.declared.Record.the-variants.{Absent, At}
+use Rattle.lsm_channel_colors.specs.declared.tables.Count.{Count}
+use Rattle.lsm_channel_colors.specs.declared.tables.Count.the-variants.{Value, Nothing}
+use Rattle.lsm_channel_colors.specs.declared.tables.Pointers.{Pointers}
+use Rattle.lsm_channel_colors.specs.declared.tables.Pointers.the-variants.{Absent as NoPointers, At as PointersAt}
+use Rattle.lsm_channel_colors.specs.declared.tables.Record.{Record}
+use Rattle.lsm_channel_colors.specs.declared.tables.Record.the-variants.{Absent, At}
 
 -- A length as the file states it, and a pointer: "a negative length" ends the names, "a pointer ≤ 0 means none of that sort".
 abbrev pub natural : ℤ → Option ℕ
