@@ -11,8 +11,8 @@ use Rattle.lsm_format.specs.Picture.{Samples, into}
 use Rattle.lsm_region.specs.Code.{shapeOf, Pictured}
 use Rattle.lsm_reader.specs.Opening.{toldOf, openedOf, OpenedAs}
 use Rattle.lsm_reader.specs.declared.open.OpenAnswer.{OpenAnswer}
-use Rattle.description_words.specs.Words.{describedBy}
-use Rattle.answer_words.specs.Answers.{padded, openWords, channelWords, pictureWords}
+use Rattle.lsm_words.specs.Description.{describedBy}
+use Rattle.lsm_words.specs.Answers.{padded, openWords, channelWords, pictureWords}
 use Rattle.lsm_c.specs.Calls.{numberOf, OpenedBy, lookupBy, lookupMemoryBy, Answered, LookedUp, PicturedBy}
 
 -- a refusal's first word is its number

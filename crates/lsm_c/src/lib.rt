@@ -1,12 +1,12 @@
 // The C interface. Every number has 64 bits; a slice comes as pointer and length. Every function returns document 01's number, 0
 // where it accepts, and overwrites the whole of `answer`: with the answer, or with a refusal's row and zeros after it.
-use answer_words::channel_words;
-use answer_words::open_words;
-use description_words::read_description;
 use lsm_channel_colors::ChannelAnswer;
 use lsm_description::DescriptionAnswer;
 use lsm_description::channel;
 use lsm_reader::open::open_file;
+use lsm_words::answers::channel_words;
+use lsm_words::answers::open_words;
+use lsm_words::description::read_description;
 ghost use Rattle.lsm_channel_colors.specs.Code.{answerOf};
 ghost use Rattle.lsm_c.specs.Calls.{OpenedBy, Answered, LookedUp};
 

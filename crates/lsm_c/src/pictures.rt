@@ -1,11 +1,11 @@
 // Pictures through the C interface.
-use answer_words::picture_words;
-use description_words::read_description;
 use lsm_description::DescriptionAnswer;
 use lsm_format::types::PixelRect;
 use lsm_region::PictureAnswer;
 use lsm_region::plane;
 use lsm_region::region;
+use lsm_words::answers::picture_words;
+use lsm_words::description::read_description;
 ghost use Rattle.lsm_format.specs.Code.{rectOf};
 ghost use Rattle.lsm_region.specs.Code.{answerOf, Pictured};
 ghost use Rattle.lsm_c.specs.Calls.{planeBy, regionBy, PicturedBy};

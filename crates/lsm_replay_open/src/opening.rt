@@ -1,9 +1,9 @@
 // A line `o`: the table's room in words, and the answer that opening the line's file gives.
-use description_words::description_words;
 use lsm_format::error::Refusal;
 use lsm_reader::open::OpenAnswer;
 use lsm_reader::open::Opened;
 use lsm_reader::open::open_file;
+use lsm_words::description::description_words;
 use vectors::same::WORD;
 use vectors::same::kept_words;
 use vectors::same::same_front;
