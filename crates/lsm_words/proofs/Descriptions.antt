@@ -12,7 +12,7 @@ use Rattle.lsm_format.specs.Calibration.{Calibration}
 use Rattle.lsm_format.specs.Open.{Description}
 use Rattle.lsm_words.specs.Calibration.{sizeWords, sizeBy}
 use Rattle.lsm_words.proofs.Calibrations.{from, all, size-long}
-use Rattle.lsm_words.specs.Description.{orderWord, kindWord, blockWords, descriptionWords}
+use Rattle.lsm_words.specs.Description.{descriptionLength, orderWord, kindWord, blockWords, descriptionWords}
 use Rattle.lsm_words.specs.Description.{orderBy, kindBy, blockBy, describedBy}
 
 -- ---- the whole
@@ -69,7 +69,7 @@ pub description-is : (d : Description) {o k : ℕ} {size block : List ℕ} →
 unfolding descriptionWords from
 description-is d {size = size} {block = block} a b s t = rw (a, b, parts (d .calibration) (d .channelBlock) size block s t)
 
-pub description-long : (d : Description) → length (descriptionWords d) ≡ 17
+pub description-long : (d : Description) → length (descriptionWords d) ≡ descriptionLength
 unfolding descriptionWords
 description-long d =
     let s = size-long (d .calibration) in

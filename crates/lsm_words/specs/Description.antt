@@ -1,6 +1,6 @@
--- A description as 17 words: 0 byte order; 1 kind; 2 to 6 T C Z Y X; 7 scenes; 8 pages per scene; 9 strips per channel; 10 whether a
+-- A description as words: 0 byte order; 1 kind; 2 to 6 T C Z Y X; 7 scenes; 8 pages per scene; 9 strips per channel; 10 whether a
 -- pixel size is stated; 11, 12 X and Y as f32 bits; 13 what became of the Z step; 14 its f32 bits; 15 whether there is a channel
--- block; 16 its place.
+-- block; 16 its place. A word more stands at the end.
 use Prim.Native.Nat.{ℕ}
 use mathlib.Core.Option.{Option, none, some}
 use mathlib.Core.List.{List, [], _∷_, _++_}
@@ -10,6 +10,10 @@ use Rattle.lsm_format.specs.Numbers.{Order, little, big}
 use Rattle.lsm_format.specs.Sizes.{Kind, u8, u16, i16, f32}
 use Rattle.lsm_format.specs.Open.{Description}
 use Rattle.lsm_words.specs.Calibration.{sizeWords, chosen, sizeBy}
+
+-- How many words a description has.
+abbrev pub descriptionLength : ℕ
+descriptionLength = 17
 
 -- ---- on the way out: what is absent is 0
 
@@ -45,7 +49,7 @@ kindBy n = chosen (accepted u8 ∷ accepted u16 ∷ accepted i16 ∷ accepted f3
 unfoldable pub blockBy : ℕ → ℕ → Result (Option ℕ)
 blockBy n place = chosen (accepted none ∷ accepted (some place) ∷ []) n
 
--- The description that 17 words are.
+-- The description that words are.
 unfoldable pub describedBy : List ℕ → Result Description
 describedBy w =
     bind (orderBy (getD w 0 0)) (λ order.

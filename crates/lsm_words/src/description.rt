@@ -1,4 +1,4 @@
-// A description as 17 words, which a C caller keeps and hands in again: written, and read back.
+// A description as words, which a C caller keeps and hands in again: written, and read back.
 use crate::sizes::SizeAnswer;
 use crate::sizes::size_of;
 use crate::sizes::size_words;
@@ -18,6 +18,9 @@ ghost use Rattle.lsm_description.specs.Code.{descriptionOf, headerOf, sampleOf,
 ghost use Rattle.lsm_words.specs.Description.{orderWord, kindWord, blockWords, descriptionWords};
 ghost use Rattle.lsm_words.specs.Description.{orderBy, kindBy, blockBy, describedBy};
 ghost use Rattle.lsm_words.specs.Code.{blockAnswerOf};
+
+// How many words a description has. A word more stands at the end.
+pub const DESCRIPTION_WORDS: usize = 17;
 
 fn order_word(e: Endian) -> usize
     ensures { λ r. ⌜ r ≡ orderWord (orderOf e) ⌝ }
@@ -48,7 +51,7 @@ fn block_words(b: ChannelBlock) -> [usize; 2]
     }
 }
 
-pub fn description_words(d: Description) -> [usize; 17]
+pub fn description_words(d: Description) -> [usize; DESCRIPTION_WORDS]
     ensures { λ r. ⌜ r ≡ descriptionWords (descriptionOf d) ⌝ }
 {
     let endian = d.endian;
@@ -119,8 +122,8 @@ fn block_of(there: usize, place: usize) -> BlockAnswer
     }
 }
 
-// The description that 17 words are. Words that are none are refused; words of what is absent are not looked at.
-pub fn read_description(words: &[usize; 17]) -> DescriptionAnswer
+// The description that words are. Words that are none are refused; words of what is absent are not looked at.
+pub fn read_description(words: &[usize; DESCRIPTION_WORDS]) -> DescriptionAnswer
     ensures { λ r. ⌜ describedOf r ≡ describedBy (now (words .entry)) ⌝ }
 {
     let endian = match order_of(words[0]) {

@@ -1,5 +1,6 @@
 -- `lsm_words::answers::channel_refusal` meets its contract. Assumes nothing.
 use borrow.Author.Needs.{needs}
+use Rattle.lsm_words.specs.Answers.{channelLength}
 use Rattle.lsm_words.proofs.Answered.{row-words}
 use Rattle.lsm_words.proofs.answers.channel_refusal.Statement.{statement}
 use Rattle.lsm_words.proofs.answers.channel_refusal.Tie as tie
@@ -23,7 +24,7 @@ array-read-t18 : tie.Need-array-read-t18
 array-read-t18 c = search needs
 
 returns : tie.Need-returns
-returns c = row-words 3 (c .before .before .args .r) (c .before .numbers .ensures)
+returns c = row-words channelLength (c .before .before .args .r) (c .before .numbers .ensures)
 
 pub channel-refusal-spec : {M : Type 1} → statement M
 channel-refusal-spec =

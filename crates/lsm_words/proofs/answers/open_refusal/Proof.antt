@@ -1,5 +1,6 @@
 -- `lsm_words::answers::open_refusal` meets its contract. Assumes nothing.
 use borrow.Author.Needs.{needs}
+use Rattle.lsm_words.specs.Answers.{openLength}
 use Rattle.lsm_words.proofs.Answered.{row-words}
 use Rattle.lsm_words.proofs.answers.open_refusal.Statement.{statement}
 use Rattle.lsm_words.proofs.answers.open_refusal.Tie as tie
@@ -38,7 +39,7 @@ array-write-words-5 : tie.Need-array-write-words-5
 array-write-words-5 c = search needs
 
 returns : tie.Need-returns
-returns c = row-words 15 (c .before .before .args .r) (c .before .numbers .ensures)
+returns c = row-words openLength (c .before .before .args .r) (c .before .numbers .ensures)
 
 pub open-refusal-spec : {M : Type 1} → statement M
 open-refusal-spec =

@@ -1,3 +1,4 @@
+use Rattle.lsm_words.specs.Answers.{pictureLength}
 use Rattle.lsm_words.proofs.Answered.{row-words}
 use borrow.Author.Needs.{needs}
 use Rattle.lsm_words.proofs.answers.picture_refusal.Statement.{statement}
@@ -22,7 +23,7 @@ array-read-t18 : tie.Need-array-read-t18
 array-read-t18 c = search needs
 
 returns : tie.Need-returns
-returns c = row-words 0 (c .before .before .args .r) (c .before .numbers .ensures)
+returns c = row-words pictureLength (c .before .before .args .r) (c .before .numbers .ensures)
 
 pub picture-refusal-spec : {M : Type 1} → statement M
 picture-refusal-spec =
