@@ -1,7 +1,8 @@
 -- `lsm_words::description::read_description` meets its contract. Assumes nothing.
 use mathlib.Core.Path.{sym, ap, _∙_}
 use borrow.Author.Needs.{needs}
-use Rattle.lsm_description.specs.Code.{headerOf, sampleOf}
+use Rattle.lsm_description.specs.Code.{sampleOf}
+use Rattle.lsm_reader.specs.Header.{headerOf}
 use Rattle.lsm_words.specs.Code.{sizeAnswerOf}
 use Rattle.lsm_words.specs.Code.{blockAnswerOf}
 use Rattle.lsm_words.proofs.Descriptions.{no-order, no-kind, no-size, no-block, described-is}

@@ -1,13 +1,14 @@
+-- `lsm_reader::header::read_tiff_header` meets its contract, by the check that refuses. Assumes nothing.
 use mathlib.Core.Path.{sym, ap, _∙_}
 use borrow.Author.Tests.{eq-eqb, ne-eqb, le-leb, lt-leb}
 use Rattle.lsm_format.specs.Answer.{bind}
 use Rattle.lsm_format.specs.Open.{tiffHeader}
 use Rattle.lsm_bytes.specs.Code.{u16Of}
-use Rattle.lsm_description.specs.Code.{headerOf}
+use Rattle.lsm_reader.specs.Header.{headerOf}
 use borrow.Author.Needs.{needs}
-use Rattle.lsm_description.proofs.read_tiff_header.Statement.{statement}
-use Rattle.lsm_description.proofs.read_tiff_header.Tie as tie
-use Rattle.lsm_description.proofs.read_tiff_header.Reads as reads
+use Rattle.lsm_reader.proofs.header.read_tiff_header.Statement.{statement}
+use Rattle.lsm_reader.proofs.header.read_tiff_header.Tie as tie
+use Rattle.lsm_reader.proofs.header.read_tiff_header.Reads as reads
 
 returns : tie.Need-returns
 unfolding tiffHeader bind

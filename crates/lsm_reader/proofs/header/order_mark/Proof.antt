@@ -1,6 +1,7 @@
+-- `lsm_reader::header::order_mark` meets its contract: the tests that led to each answer say which mark it is. Assumes nothing.
 use borrow.Author.Tests.{ne-eqb}
-use Rattle.lsm_description.proofs.order_mark.Statement.{statement}
-use Rattle.lsm_description.proofs.order_mark.Tie as tie
+use Rattle.lsm_reader.proofs.header.order_mark.Statement.{statement}
+use Rattle.lsm_reader.proofs.header.order_mark.Tie as tie
 
 returns : tie.Need-returns
 returns c = rw (c .before .if1 .taken, c .if2 .taken)
