@@ -34,7 +34,7 @@
 extern "C" {
 #endif
 
-/* The words of a description, which lsm_open gives and the other functions take:
+/* The words of a description, which lsm_open gives and the other functions take. Later versions add words at the end only.
  *
  *   0        byte order: 0 little, 1 big
  *   1        kind of sample: 0 unsigned of 8 bits, 1 unsigned of 16 bits, 2 signed of 16 bits, 3 float of 32 bits
@@ -56,12 +56,17 @@ extern "C" {
  */
 #define LSM_DESCRIPTION_WORDS 17
 
+/* The words of an answer: of lsm_open, of lsm_channel, of lsm_plane and lsm_region. */
+#define LSM_OPEN_WORDS (3 + LSM_DESCRIPTION_WORDS)
+#define LSM_CHANNEL_WORDS 8
+#define LSM_PICTURE_WORDS 5
+
 /* Opens a file: checks it, describes it, and writes its strips into the table, page by page, strip by strip, offset then length.
  *
- * Accepted: answer[1] is how many directories were visited, answer[2] how many words of the table were written, and answer[3] to
- * answer[19] are the description's words.
+ * Accepted: answer[1] is how many directories were visited, answer[2] how many words of the table were written, and the words from
+ * answer[3] on are the description's.
  */
-size_t lsm_open(const uint8_t *file, size_t file_len, size_t *table, size_t table_len, size_t answer[20]);
+size_t lsm_open(const uint8_t *file, size_t file_len, size_t *table, size_t table_len, size_t answer[LSM_OPEN_WORDS]);
 
 /* The colour and name of a channel, counted from 0. The name's text, in UTF-8 and with no zero byte after it, is written to `name`;
  * 3072 bytes hold any name.
@@ -70,7 +75,7 @@ size_t lsm_open(const uint8_t *file, size_t file_len, size_t *table, size_t tabl
  * a name, with its length in bytes in answer[6]; answer[7] is 0. What is absent is 0. A name of length 0 is a name.
  */
 size_t lsm_channel(const uint8_t *file, size_t file_len, const size_t description[LSM_DESCRIPTION_WORDS], size_t channel,
-                   uint8_t *name, size_t name_len, size_t answer[8]);
+                   uint8_t *name, size_t name_len, size_t answer[LSM_CHANNEL_WORDS]);
 
 /* A whole picture of a channel, with the description and the table that lsm_open gave of the file. Its samples are written to `out`,
  * row by row, little-endian whatever the file's order.
@@ -78,7 +83,8 @@ size_t lsm_channel(const uint8_t *file, size_t file_len, const size_t descriptio
  * Accepted: answer[1] is the height, answer[2] the width, answer[3] how many bytes were written, answer[4] is 0.
  */
 size_t lsm_plane(const uint8_t *file, size_t file_len, const size_t description[LSM_DESCRIPTION_WORDS], const size_t *table,
-                 size_t table_len, size_t scene, size_t t, size_t c, size_t z, uint8_t *out, size_t out_len, size_t answer[5]);
+                 size_t table_len, size_t scene, size_t t, size_t c, size_t z, uint8_t *out, size_t out_len,
+                 size_t answer[LSM_PICTURE_WORDS]);
 
 /* A rectangle of a picture: its left column x and top row y, w columns and h rows. The picture may be one that is too large for
  * lsm_plane. The same is written and answered as by lsm_plane, with h and w as height and width; a rectangle of width or height 0 is
@@ -86,7 +92,7 @@ size_t lsm_plane(const uint8_t *file, size_t file_len, const size_t description[
  */
 size_t lsm_region(const uint8_t *file, size_t file_len, const size_t description[LSM_DESCRIPTION_WORDS], const size_t *table,
                   size_t table_len, size_t scene, size_t t, size_t c, size_t z, size_t x, size_t y, size_t w, size_t h,
-                  uint8_t *out, size_t out_len, size_t answer[5]);
+                  uint8_t *out, size_t out_len, size_t answer[LSM_PICTURE_WORDS]);
 
 #ifdef __cplusplus
 }

@@ -76,7 +76,7 @@ int main(int argc, char **argv)
     uint8_t *file = read_file(argv[1], &len);
 
     /* Open with no room: 7 says how many words the strip table takes. Anything else is the file's own refusal. */
-    size_t answer[20], nothing = 0;
+    size_t answer[LSM_OPEN_WORDS], nothing = 0;
     if (lsm_open(file, len, &nothing, 0, answer) != 7)
         return refused(answer);
     size_t words = answer[1];
@@ -84,14 +84,14 @@ int main(int argc, char **argv)
     if (lsm_open(file, len, table, words, answer) != 0)
         return refused(answer);
 
-    /* The description: 17 words, which the other calls take. */
+    /* The description's words, which the other calls take. */
     const size_t *description = answer + 3;
     size_t kind = description[1], width = description[6];
     printf("dims %zu %zu %zu %zu %zu\n", description[2], description[3], description[4], description[5], width);
     printf("kind %zu\n", kind);
 
     /* Channel 0. 3072 bytes hold any name. Bytes that would steer a terminal are left out. */
-    size_t channel[8];
+    size_t channel[LSM_CHANNEL_WORDS];
     uint8_t name[3072];
     if (lsm_channel(file, len, description, 0, name, sizeof name, channel) != 0)
         return refused(channel);
@@ -106,7 +106,7 @@ int main(int argc, char **argv)
     putchar('\n');
 
     /* The rectangle of row 0: scene, t, c and z are 0; column 0, row 0, the whole width, one row. Again the length is asked for first. */
-    size_t picture[5];
+    size_t picture[LSM_PICTURE_WORDS];
     uint8_t none = 0;
     if (lsm_region(file, len, description, table, words, 0, 0, 0, 0, 0, 0, width, 1, &none, 0, picture) != 7)
         return refused(picture);

@@ -1,7 +1,7 @@
 -- Laws of the tests on a voxel size, of the Z step by its place, and of the whole calibration. Assumes nothing.
 use mathlib.Core.Path.{_≡_, refl, sym, ap, subst}
 use Prim.Native.Nat.{ℕ, _<_}
-use mathlib.Core.Bool.{true, false, not}
+use mathlib.Core.Bool.{true, false, not, true≢false}
 use mathlib.Core.List.{[]}
 use lib.Dec.{T}
 use lib.Bits.{bitAnd}
@@ -11,9 +11,6 @@ use lib.Ieee.Compare.{differs-from-itself}
 use Rattle.lsm_format.specs.Calibration.{uncalibrated, sized, calibration, aboveNought, nought, micrometres, figure}
 use Rattle.lsm_format.specs.Calibration.{ZStep, used, absent, placeholder, tooLarge, zStep, stepBy, smallestStep, largestStep}
 use Rattle.narrowing.proofs.Product.{Number, pattern-nan, micrometres-number}
-
-never : true ≡ false → ⊥
-never e = subst T e tt
 
 -- ---- the code's constants, by their patterns
 
@@ -66,7 +63,7 @@ module _ (z : Float) where
       go : (v : Float) → lt v (inf false) ≡ false → absent ≡ zStep v
       go nan h = refl
       go (inf s) h = refl
-      go (fin s m e) h = absurd (never h)
+      go (fin s m e) h = absurd (true≢false h)
 
   step-finite : le z (ofBits binary32 0) ≡ false → lt z (ofBits binary32 0x7f80_0000) ≡ true →
       zStep z ≡ stepBy false (lt z smallestStep) (lt largestStep z) z
@@ -74,9 +71,9 @@ module _ (z : Float) where
   step-finite h k = go z (rw nought-is at h) (rw infinity-is at k)
     where
       go : (v : Float) → le v nought ≡ false → lt v (inf false) ≡ true → zStep v ≡ stepBy false (lt v smallestStep) (lt largestStep v) v
-      go nan h k = absurd (never (sym k))
-      go (inf true) h k = absurd (never h)
-      go (inf false) h k = absurd (never (sym k))
+      go nan h k = absurd (true≢false (sym k))
+      go (inf true) h k = absurd (true≢false h)
+      go (inf false) h k = absurd (true≢false (sym k))
       go (fin s m e) h k = rw h
 
   module _ (h : le z (ofBits binary32 0) ≡ false) (k : lt z (ofBits binary32 0x7f80_0000) ≡ true) where
@@ -100,7 +97,7 @@ module _ (z : Float) where
   step-number h = go z h
     where
       go : (v : Float) → ne v v ≡ false → T (not (isNan v))
-      go nan h = absurd (never h)
+      go nan h = absurd (true≢false h)
       go (inf s) h = tt
       go (fin s m e) h = tt
 
@@ -120,7 +117,7 @@ unfolding lt isNan
 above-number b h e = subst Number (sym e) (micrometres-number b (go (ofBits binary64 b) h))
   where
     go : (v : Float) → lt nought v ≡ true → Number v
-    go nan h = never (sym h)
+    go nan h = true≢false (sym h)
     go (inf s) h = tt
     go (fin s m e) h = tt
 

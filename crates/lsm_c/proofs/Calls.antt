@@ -11,8 +11,8 @@ use Rattle.lsm_format.specs.Picture.{Samples, into}
 use Rattle.lsm_region.specs.Code.{shapeOf, Pictured}
 use Rattle.lsm_reader.specs.Opening.{toldOf, openedOf, OpenedAs}
 use Rattle.lsm_reader.specs.declared.open.OpenAnswer.{OpenAnswer}
-use Rattle.description_words.specs.Words.{describedBy}
-use Rattle.answer_words.specs.Answers.{padded, openWords, channelWords, pictureWords}
+use Rattle.lsm_words.specs.Description.{describedBy}
+use Rattle.lsm_words.specs.Answers.{openLength, channelLength, pictureLength, padded, openWords, channelWords, pictureWords}
 use Rattle.lsm_c.specs.Calls.{numberOf, OpenedBy, lookupBy, lookupMemoryBy, Answered, LookedUp, PicturedBy}
 
 -- a refusal's first word is its number
@@ -24,7 +24,7 @@ row-number k (x ∷ row) = refl
 
 open-number : (x : Result Rule.Opened) → getD (openWords (toldOf x)) 0 0 ≡ numberOf x
 open-number (accepted o) = refl
-open-number (refused row) = row-number 15 row
+open-number (refused row) = row-number openLength row
 
 pub opened-by : {f lent table w : List ℕ} {a : OpenAnswer} → OpenedAs f lent table a → w ≡ openWords (openedOf a) →
     OpenedBy f lent table w (getD w 0 0)
@@ -36,7 +36,7 @@ opened-by {f} {lent} h e =
 
 channel-number : (x : Result Channel) → getD (channelWords (seen x)) 0 0 ≡ numberOf x
 channel-number (accepted c) = refl
-channel-number (refused row) = row-number 3 row
+channel-number (refused row) = row-number channelLength row
 
 module _ (f w : List ℕ) (channel : ℕ) (lent : List ℕ) where
   pub no-description : (row : List ℕ) → describedBy w ≡ refused row → Answered f w channel lent lent (refused row)
@@ -62,7 +62,7 @@ module _ (f w : List ℕ) (channel : ℕ) (lent : List ℕ) where
 
 picture-number : (x : Result Samples) → getD (pictureWords (shapeOf x)) 0 0 ≡ numberOf x
 picture-number (accepted a) = refl
-picture-number (refused row) = row-number 0 row
+picture-number (refused row) = row-number pictureLength row
 
 pub pictured-by : {s : Result Samples} {lent out words : List ℕ} {a : Result (ℕ × ℕ × ℕ)} → Pictured s lent out a → words ≡ pictureWords a →
     PicturedBy s lent out words (getD words 0 0)

@@ -11,8 +11,8 @@ use Rattle.lsm_format.specs.Picture.{Samples, plane, region, into, bufferBy}
 use Rattle.lsm_format.specs.Rectangle.{Rect, Coordinate}
 use Rattle.lsm_region.specs.Code.{shapeOf}
 use Rattle.lsm_reader.specs.Opening.{toldOf}
-use Rattle.description_words.specs.Words.{describedBy}
-use Rattle.answer_words.specs.Answers.{openWords, channelWords, pictureWords}
+use Rattle.lsm_words.specs.Description.{describedBy}
+use Rattle.lsm_words.specs.Answers.{openWords, channelWords, pictureWords}
 
 -- the returned number: 0, or the first of a refusal's row
 abbrev pub numberOf : {A : Type 0} → Result A → ℕ

@@ -1,12 +1,15 @@
 // The C interface. Every number has 64 bits; a slice comes as pointer and length. Every function returns document 01's number, 0
 // where it accepts, and overwrites the whole of `answer`: with the answer, or with a refusal's row and zeros after it.
-use answer_words::channel_words;
-use answer_words::open_words;
-use description_words::read_description;
 use lsm_channel_colors::ChannelAnswer;
 use lsm_description::DescriptionAnswer;
 use lsm_description::channel;
 use lsm_reader::open::open_file;
+use lsm_words::answers::CHANNEL_WORDS;
+use lsm_words::answers::OPEN_WORDS;
+use lsm_words::answers::channel_words;
+use lsm_words::answers::open_words;
+use lsm_words::description::DESCRIPTION_WORDS;
+use lsm_words::description::read_description;
 ghost use Rattle.lsm_channel_colors.specs.Code.{answerOf};
 ghost use Rattle.lsm_c.specs.Calls.{OpenedBy, Answered, LookedUp};
 
@@ -14,7 +17,11 @@ pub mod pictures;
 
 // Opens a file and writes its strips into the table.
 #[no_mangle]
-pub extern "C" fn lsm_open(file: &[u8], table: &mut [usize], answer: &mut [usize; 20]) -> usize
+pub extern "C" fn lsm_open(
+    file: &[u8],
+    table: &mut [usize],
+    answer: &mut [usize; OPEN_WORDS],
+) -> usize
     ensures { λ r. ⌜ OpenedBy (now (file .entry)) (now (table .entry)) (now (table .exit)) (now (answer .exit)) r ⌝ }
 {
     let opened = open_words(open_file(file, table));
@@ -23,7 +30,12 @@ pub extern "C" fn lsm_open(file: &[u8], table: &mut [usize], answer: &mut [usize
 }
 
 // The lookup with the description that these words are. No description is refused before anything else.
-fn look_up(file: &[u8], description: &[usize; 17], index: usize, name: &mut [u8]) -> ChannelAnswer
+fn look_up(
+    file: &[u8],
+    description: &[usize; DESCRIPTION_WORDS],
+    index: usize,
+    name: &mut [u8],
+) -> ChannelAnswer
     ensures { λ r. ⌜ Answered (now (file .entry)) (now (description .entry)) index (now (name .entry)) (now (name .exit)) (answerOf r) ⌝ }
 {
     match read_description(description) {
@@ -36,10 +48,10 @@ fn look_up(file: &[u8], description: &[usize; 17], index: usize, name: &mut [u8]
 #[no_mangle]
 pub extern "C" fn lsm_channel(
     file: &[u8],
-    description: &[usize; 17],
+    description: &[usize; DESCRIPTION_WORDS],
     index: usize,
     name: &mut [u8],
-    answer: &mut [usize; 8],
+    answer: &mut [usize; CHANNEL_WORDS],
 ) -> usize
     ensures { λ r. ⌜ LookedUp (now (file .entry)) (now (description .entry)) index (now (name .entry)) (now (name .exit)) (now (answer .exit)) r ⌝ }
 {

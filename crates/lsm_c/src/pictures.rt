@@ -1,11 +1,13 @@
 // Pictures through the C interface.
-use answer_words::picture_words;
-use description_words::read_description;
 use lsm_description::DescriptionAnswer;
 use lsm_format::types::PixelRect;
 use lsm_region::PictureAnswer;
 use lsm_region::plane;
 use lsm_region::region;
+use lsm_words::answers::PICTURE_WORDS;
+use lsm_words::answers::picture_words;
+use lsm_words::description::DESCRIPTION_WORDS;
+use lsm_words::description::read_description;
 ghost use Rattle.lsm_format.specs.Code.{rectOf};
 ghost use Rattle.lsm_format.specs.Rectangle.{coordinate};
 ghost use Rattle.lsm_region.specs.Code.{answerOf, Pictured};
@@ -14,7 +16,7 @@ ghost use Rattle.lsm_c.specs.Calls.{planeBy, regionBy, PicturedBy};
 // The picture with the description that these words are. No description is refused before anything else.
 fn plane_by(
     file: &[u8],
-    description: &[usize; 17],
+    description: &[usize; DESCRIPTION_WORDS],
     table: &[usize],
     scene: usize,
     t: usize,
@@ -32,7 +34,7 @@ fn plane_by(
 
 fn region_by(
     file: &[u8],
-    description: &[usize; 17],
+    description: &[usize; DESCRIPTION_WORDS],
     table: &[usize],
     scene: usize,
     t: usize,
@@ -53,14 +55,14 @@ fn region_by(
 #[no_mangle]
 pub extern "C" fn lsm_plane(
     file: &[u8],
-    description: &[usize; 17],
+    description: &[usize; DESCRIPTION_WORDS],
     table: &[usize],
     scene: usize,
     t: usize,
     c: usize,
     z: usize,
     out: &mut [u8],
-    answer: &mut [usize; 5],
+    answer: &mut [usize; PICTURE_WORDS],
 ) -> usize
     ensures { λ r. ⌜ PicturedBy (planeBy (now (description .entry)) (now (table .entry)) (now (file .entry)) (coordinate scene t c z)) (now (out .entry)) (now (out .exit)) (now (answer .exit)) r ⌝ }
 {
@@ -73,7 +75,7 @@ pub extern "C" fn lsm_plane(
 #[no_mangle]
 pub extern "C" fn lsm_region(
     file: &[u8],
-    description: &[usize; 17],
+    description: &[usize; DESCRIPTION_WORDS],
     table: &[usize],
     scene: usize,
     t: usize,
@@ -84,7 +86,7 @@ pub extern "C" fn lsm_region(
     w: usize,
     h: usize,
     out: &mut [u8],
-    answer: &mut [usize; 5],
+    answer: &mut [usize; PICTURE_WORDS],
 ) -> usize
     ensures { λ r. ⌜ PicturedBy (regionBy (now (description .entry)) (now (table .entry)) (now (file .entry)) (coordinate scene t c z) (record { x = x; y = y; w = w; h = h })) (now (out .entry)) (now (out .exit)) (now (answer .exit)) r ⌝ }
 {

@@ -13,19 +13,20 @@ use Rattle.lsm_format.specs.Utf8.{lossy}
 use Rattle.lsm_format.specs.Channels as Rule
 use Rattle.lsm_format.specs.Channels.{pointers, colorAt, color, nameSpan, trimmed, textIn, name, channelIn, lookup}
 use Rattle.lsm_format.specs.declared.error.Refusal.{Refusal}
+use Rattle.lsm_format.proofs.Apart.{no-case}
 use Rattle.lsm_format.proofs.Channels.{color-pointed, span-inside, channel-unread, channel-there, lookup-outside, memory-outside, lookup-nameless, memory-nameless, lookup-named, memory-named}
 use Rattle.utf8.specs.Code.{decodedOf, Decoding}
 use Rattle.utf8.specs.declared.Decoded.{Decoded}
 use Rattle.utf8.specs.declared.Decoded.the-variants.{Length, Refused}
 use Rattle.utf8.proofs.Lent.{told-length}
-use Rattle.channel_tables.specs.Parts.{pointed, spanOf}
-use Rattle.channel_tables.proofs.Signed.{pointed-is}
+use Rattle.lsm_channel_colors.specs.Tables.{pointed, spanOf}
+use Rattle.lsm_channel_colors.proofs.Signed.{pointed-is}
 use Rattle.lsm_channel_colors.specs.Code.{colorOf, Looked}
 use Rattle.lsm_channel_colors.specs.Parts.{Trimming, Inside, Stating}
 use Rattle.lsm_channel_colors.specs.declared.Color.{Color}
 use Rattle.lsm_channel_colors.specs.declared.Color.the-variants.{Absent as NoColor}
-use Rattle.channel_tables.specs.declared.Record.{Record}
-use Rattle.channel_tables.specs.declared.Record.the-variants.{Absent, At}
+use Rattle.lsm_channel_colors.specs.declared.tables.Record.{Record}
+use Rattle.lsm_channel_colors.specs.declared.tables.Record.the-variants.{Absent, At}
 use Rattle.lsm_channel_colors.specs.declared.Stated.{Stated}
 
 -- ---- a channel's colour: no pointer; a pointer that points
@@ -33,7 +34,7 @@ use Rattle.lsm_channel_colors.specs.declared.Stated.{Stated}
 pub no-colors : (f : List ℕ) (block : ℕ) (z : ℤ) (channel : ℕ) → pointed z ≡ none → none ≡ color f block z channel
 unfolding color
 no-colors f block (pos zero) channel e = refl
-no-colors f block (pos (suc n)) channel e = let z : _≡_ {A = ℕ} 0 1 = cc in absurd (omega arith)
+no-colors f block (pos (suc n)) channel e = no-case cc
 no-colors f block (negsuc n) channel e = refl
 
 pub color-is : (f : List ℕ) (block : ℕ) (z : ℤ) (channel n place : ℕ) → pointed z ≡ some n → place ≡ block + n + 4 * channel →

@@ -6,7 +6,7 @@ use mathlib.Core.List.{List}
 use lib.ListN.{length, take, drop}
 use Rattle.lsm_format.specs.Channels.{trimmed, textIn, channelIn}
 use Rattle.lsm_format.specs.Numbers.{Order}
-use Rattle.channel_tables.specs.Parts.{spanOf}
+use Rattle.lsm_channel_colors.specs.Tables.{spanOf}
 use Rattle.lsm_channel_colors.specs.Code.{colorOf}
 use Rattle.lsm_channel_colors.specs.declared.Stated.{Stated}
 

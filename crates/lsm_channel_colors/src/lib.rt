@@ -1,10 +1,12 @@
 // Channel colours and names.
-use channel_tables::Count;
-use channel_tables::Pointers;
-use channel_tables::Record;
-use channel_tables::find_name;
-use channel_tables::read_pointers;
-use channel_tables::table_of;
+mod tables;
+
+use crate::tables::Count;
+use crate::tables::Pointers;
+use crate::tables::Record;
+use crate::tables::find_name;
+use crate::tables::read_pointers;
+use crate::tables::table_of;
 use lsm_format::checked::Word;
 use lsm_format::checked::checked_add;
 use lsm_format::checked::checked_mul;

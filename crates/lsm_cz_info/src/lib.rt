@@ -1,8 +1,10 @@
 // The CZ-LSM-Info block: dimensions, voxel sizes, the channel block's place, positions and tiles.
+mod header;
+
+use crate::header::LengthAnswer;
+use crate::header::read_header;
 use calibration::Calibration;
 use calibration::calibrate;
-use cz_header::LengthAnswer;
-use cz_header::read_header;
 use lsm_bytes::F64Bits;
 use lsm_bytes::I32;
 use lsm_bytes::read_f64_bits;

@@ -1,14 +1,11 @@
 -- What the description, and the answers on the way to it, mean in the definitions' terms.
 use Rattle.lsm_format.specs.Answer.{Result, accepted, refused}
 use Rattle.lsm_format.specs.Code.{rowOf, orderOf, kindOf, dimsOf, blockOf}
-use Rattle.lsm_format.specs.Numbers as Numbers
 use Rattle.lsm_format.specs.Sizes as Sizes
 use Rattle.lsm_format.specs.Open as Rule
 use Rattle.lsm_positions.specs.Code.{layoutOf}
 use Rattle.calibration.specs.Calibrated.{calibrationOf}
 use Rattle.lsm_description.specs.declared.Description.{Description}
-use Rattle.lsm_description.specs.declared.HeaderAnswer.{HeaderAnswer}
-use Rattle.lsm_description.specs.declared.HeaderAnswer.the-variants.{Order, Refused as RefusedHeader}
 use Rattle.lsm_description.specs.declared.SampleAnswer.{SampleAnswer}
 use Rattle.lsm_description.specs.declared.SampleAnswer.the-variants.{Kind, Refused as RefusedSample}
 use Rattle.lsm_description.specs.declared.DescriptionAnswer.{DescriptionAnswer}
@@ -25,10 +22,6 @@ descriptionOf d =
       calibration = calibrationOf (d .calibration);
       channelBlock = blockOf (d .«channel_colors_offset»);
     }
-
-abbrev pub headerOf : HeaderAnswer → Result Numbers.Order
-headerOf (Order e) = accepted (orderOf e)
-headerOf (RefusedHeader r) = refused (rowOf r)
 
 abbrev pub sampleOf : SampleAnswer → Result Sizes.Kind
 sampleOf (Kind k) = accepted (kindOf k)

@@ -1,7 +1,5 @@
-// The description of a file: what its header, its first full page and its CZ block make, and what is asked of it.
+// The description of a file: what its first full page and its CZ block make, and what is asked of it.
 use calibration::Calibration;
-use lsm_bytes::U16;
-use lsm_bytes::read_u16;
 use lsm_channel_colors::ChannelAnswer;
 use lsm_channel_colors::read_channel;
 use lsm_cz_info::CzInfo;
@@ -22,13 +20,13 @@ ghost use Prim.Native.Nat.{ℕ, _<_, max};
 ghost use lib.Dec.{leb};
 ghost use Rattle.lsm_format.specs.Code.{orderOf, kindOf, checkOf};
 ghost use Rattle.lsm_format.specs.Numbers.{Order};
-ghost use Rattle.lsm_format.specs.Open.{orderMark, tiffHeader, sampleKind, agreement, layoutFor};
+ghost use Rattle.lsm_format.specs.Open.{sampleKind, agreement, layoutFor};
 ghost use Rattle.lsm_format.specs.Open as Open;
 ghost use Rattle.lsm_positions.specs.Code.{answerOf as layoutAnswerOf};
 ghost use Rattle.lsm_cz_info.specs.Code.{infoOf};
 ghost use Rattle.lsm_channel_colors.specs.Code.{answerOf, Looked};
 ghost use Rattle.lsm_directory.specs.Code.{directoryOf};
-ghost use Rattle.lsm_description.specs.Code.{descriptionOf, headerOf, sampleOf, describedOf};
+ghost use Rattle.lsm_description.specs.Code.{descriptionOf, sampleOf, describedOf};
 
 // What a file says of its pictures, by value: it can be kept, and handed in again with any file.
 pub struct Description {
@@ -50,51 +48,6 @@ pub fn channel(buf: &[u8], d: Description, channel: usize, name: &mut [u8]) -> C
     let endian = d.endian;
     let dims = d.dims;
     read_channel(buf, block, endian, dims.c, channel, name)
-}
-
-pub enum HeaderAnswer {
-    Order(Endian),
-    Refused(Refusal),
-}
-
-// The byte order that the first two bytes name.
-fn order_mark(a: u8, b: u8) -> HeaderAnswer
-    ensures { λ r. ⌜ headerOf r ≡ orderMark a b ⌝ }
-{
-    if a == 0x49 {
-        if b == 0x49 {
-            return HeaderAnswer::Order(Endian::Little);
-        }
-        return HeaderAnswer::Refused(Refusal::Parse);
-    }
-    if a == 0x4d {
-        if b == 0x4d {
-            return HeaderAnswer::Order(Endian::Big);
-        }
-        return HeaderAnswer::Refused(Refusal::Parse);
-    }
-    HeaderAnswer::Refused(Refusal::Parse)
-}
-
-// The TIFF header: eight bytes, a known order and the magic 42.
-pub fn read_tiff_header(buf: &[u8]) -> HeaderAnswer
-    ensures { λ r. ⌜ headerOf r ≡ tiffHeader (now (buf .entry)) ⌝ }
-{
-    if buf.len() < 8 {
-        return HeaderAnswer::Refused(Refusal::Parse);
-    }
-    match order_mark(buf[0], buf[1]) {
-        HeaderAnswer::Order(e) => {
-            let U16::Value(magic) = read_u16(buf, 2, e) else {
-                return HeaderAnswer::Refused(Refusal::Parse);
-            };
-            if magic != 42 {
-                return HeaderAnswer::Refused(Refusal::Parse);
-            }
-            HeaderAnswer::Order(e)
-        }
-        HeaderAnswer::Refused(r) => HeaderAnswer::Refused(r),
-    }
 }
 
 pub enum SampleAnswer {

@@ -1,3 +1,5 @@
+pub mod Apart
+pub mod Told
 pub mod Lists
 pub mod Words
 pub mod Sizes

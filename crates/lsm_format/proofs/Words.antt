@@ -4,7 +4,7 @@ use Prim.Native.Nat.{ℕ, _*_, _/_, _^_, _-_, _<_, _≤_}
 use native.Mathlib.Nat.{le-div-iff-mul-le, div-lt-iff-lt-mul, le-mul-of-pos-right, mul-le-mul}
 use native.Mathlib.Omega.{arith}
 use mathlib.Core.Bool.{Bool, true, false}
-use mathlib.Core.Path.{_≡_, refl, sym, ap, _∙_}
+use mathlib.Core.Path.{_≡_, refl}
 use mathlib.Core.Option.{none, some}
 use lib.Dec.{ltb}
 use borrow.Author.Tests.{lt-ltb, le-ltb, ltb-true, ltb-false}
@@ -12,6 +12,7 @@ use Rattle.lsm_format.specs.Words.{word}
 use Rattle.lsm_format.specs.Code.{wordOf}
 use Rattle.lsm_format.specs.declared.checked.Word.{Word}
 use Rattle.lsm_format.specs.declared.checked.Word.the-variants.{Value, Overflow}
+use Rattle.lsm_format.proofs.Told.{told}
 
 pub word-fits : {n : ℕ} → n < 2 ^ 64 → word n ≡ some n
 unfolding word
@@ -46,10 +47,10 @@ word-none n e = none-by n (ltb n (2 ^ 64)) refl e
 -- ---- what the code's answer tells
 
 pub told-value : {r : Word} {x : ℕ} (n : ℕ) → wordOf r ≡ word n → r ≡ Value x → word n ≡ some x
-told-value n e v = sym e ∙ ap wordOf v
+told-value n e v = told wordOf e v
 
 pub told-overflow : {r : Word} (n : ℕ) → wordOf r ≡ word n → r ≡ Overflow → word n ≡ none
-told-overflow n e v = sym e ∙ ap wordOf v
+told-overflow n e v = told wordOf e v
 
 -- ---- products
 

@@ -22,9 +22,9 @@ use Rattle.lsm_region.specs.Code.{Pictured, shapeOf, answerOf}
 use Rattle.lsm_region.specs.declared.Picture.{Picture}
 use Rattle.lsm_region.specs.declared.PictureAnswer.{PictureAnswer}
 use Rattle.lsm_region.specs.declared.PictureAnswer.the-variants.{Read}
-use Rattle.calibration_words.specs.Words.{chosen, floatBy, stepBy, sizedBy, sizeBy}
-use Rattle.description_words.specs.Words.{orderBy, kindBy, blockBy, describedBy}
-use Rattle.answer_words.specs.Answers.{pictureWords}
+use Rattle.lsm_words.specs.Calibration.{chosen, floatBy, stepBy, sizedBy, sizeBy}
+use Rattle.lsm_words.specs.Description.{orderBy, kindBy, blockBy, describedBy}
+use Rattle.lsm_words.specs.Answers.{pictureWords}
 use Rattle.lsm_c.specs.Calls.{numberOf, planeBy, regionBy, PicturedBy}
 use Rattle.lsm_overwrite.specs.Exact.{Exact, Delivered, Accepted, Inside}
 use Rattle.lsm_overwrite.proofs.Exact.{each-rectangle, each-plane, every-inside, accepted-into, Lower, lower-bind, plane-lower, region-lower}

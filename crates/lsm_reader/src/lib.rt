@@ -1,3 +1,4 @@
 // Opening a file.
 mod chain;
+pub mod header;
 pub mod open;

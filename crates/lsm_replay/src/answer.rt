@@ -1,6 +1,6 @@
 // An answer as the lists have it: 0 and what was accepted, or a refusal's number and values.
 use lsm_format::error::Refusal;
-use vector_text::Row;
+use vectors::text::Row;
 ghost use mathlib.Core.Path.{_≡_};
 ghost use mathlib.Core.Bool.{true};
 ghost use Prim.Native.Nat.{ℕ, _+_, _<_, _≤_};

@@ -10,7 +10,7 @@ use lsm_cz_info::CzInfo;
 use lsm_cz_info::CzTag;
 use lsm_cz_info::parse;
 use lsm_format::types::ChannelBlock;
-use vector_text::Row;
+use vectors::text::Row;
 ghost use mathlib.Core.Path.{_≡_};
 ghost use mathlib.Core.Bool.{true};
 ghost use Prim.Native.Nat.{ℕ, _≤_};

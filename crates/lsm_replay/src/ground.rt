@@ -25,7 +25,7 @@ use lsm_positions::ExpectedPages;
 use lsm_positions::LayoutAnswer;
 use lsm_positions::LsmLayout;
 use lsm_positions::PageIndex;
-use vector_text::Row;
+use vectors::text::Row;
 ghost use mathlib.Core.Path.{_≡_};
 ghost use mathlib.Core.Bool.{true};
 ghost use Prim.Native.Nat.{_-_, _≤_, _<_};

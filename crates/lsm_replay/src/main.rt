@@ -1,14 +1,14 @@
 // Asks the ported functions what standard input says that the Rust was asked, and compares every number of the answers. A line
-// is as vector_text has it; tools/record writes the list, and its README.md says what the numbers are.
+// is as vectors::text has it; tools/record writes the list, and its README.md says what the numbers are.
 use crate::cz::block;
 use crate::ground::ground;
 use crate::voxels::voxels;
 use libc::STDIN_FILENO;
 use libc::STDOUT_FILENO;
-use vector_report::Tally;
-use vector_report::report;
-use vector_text::Row;
-use vector_text::row_at;
+use vectors::report::Tally;
+use vectors::report::report;
+use vectors::text::Row;
+use vectors::text::row_at;
 ghost use mathlib.Core.Path.{_≡_};
 ghost use mathlib.Core.Bool.{true};
 ghost use Prim.Native.Nat.{_<_, _≤_};

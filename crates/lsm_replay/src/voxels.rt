@@ -6,7 +6,7 @@ use calibration::ZStep;
 use calibration::calibrate;
 use calibration::note_figure;
 use figure::Figure;
-use vector_text::Row;
+use vectors::text::Row;
 ghost use mathlib.Core.Path.{_≡_};
 ghost use mathlib.Core.Bool.{true};
 ghost use Prim.Native.Nat.{_+_, _≤_, _<_};

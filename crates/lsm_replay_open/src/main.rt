@@ -1,11 +1,11 @@
 // Opens the files of standard input and looks their channels up, and compares every number with the Rust's answers, and the lent
-// memory past an answer with what was in it. A line is as vector_text has it, with the letter `o` or `n`.
+// memory past an answer with what was in it. A line is as vectors::text has it, with the letter `o` or `n`.
 use crate::lookup::lookup;
 use crate::opening::opening;
 use libc::STDIN_FILENO;
 use libc::STDOUT_FILENO;
-use vector_report::Tally;
-use vector_report::report;
+use vectors::report::Tally;
+use vectors::report::report;
 ghost use mathlib.Core.Path.{_≡_};
 ghost use mathlib.Core.Bool.{true};
 ghost use Prim.Native.Nat.{_<_, _≤_};
@@ -40,7 +40,7 @@ fn told_at(text: &[u8], at: usize) -> Told
 {
     let mut numbers = [0usize; 4096];
     let mut bytes = [0u8; 4096];
-    let line = vector_text::line_at(text, at, &mut numbers, &mut bytes);
+    let line = vectors::text::line_at(text, at, &mut numbers, &mut bytes);
     let count = line.count;
     let len = line.len;
     Told {

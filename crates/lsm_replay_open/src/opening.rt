@@ -1,18 +1,20 @@
 // A line `o`: the table's room in words, and the answer that opening the line's file gives.
-use description_words::description_words;
 use lsm_format::error::Refusal;
 use lsm_reader::open::OpenAnswer;
 use lsm_reader::open::Opened;
 use lsm_reader::open::open_file;
-use vector_same::WORD;
-use vector_same::kept_words;
-use vector_same::same_front;
-use vector_same::same_words;
+use lsm_words::answers::OPEN_WORDS;
+use lsm_words::description::description_words;
+use vectors::same::WORD;
+use vectors::same::kept_words;
+use vectors::same::same_front;
+use vectors::same::same_words;
 ghost use mathlib.Core.Path.{_≡_};
 ghost use mathlib.Core.Bool.{true};
 ghost use Prim.Native.Nat.{_≤_};
 ghost use lib.ListN.{length};
 ghost use Rattle.lsm_format.specs.Code.{rowOf};
+ghost use Rattle.lsm_words.specs.Answers.{openLength};
 
 // The largest table that a line asks for.
 const ROOM: usize = 64;
@@ -30,10 +32,10 @@ pub fn refused(said: &[usize], r: Refusal) -> bool
 // Whether the numbers said are 0, the directories visited, the words of the table, the description and the table, and the words
 // past the table are as they were.
 fn opened(said: &[usize], o: Opened, table: &[usize]) -> bool
-    ensures { λ r. ⌜ (r ≡ true → 20 ≤ length (now (said .entry))) × (r ≡ true → o .words ≤ length (now (table .entry))) ⌝ }
+    ensures { λ r. ⌜ (r ≡ true → openLength ≤ length (now (said .entry))) × (r ≡ true → o .words ≤ length (now (table .entry))) ⌝ }
 {
     let count = o.words;
-    if said.len() < 20 {
+    if said.len() < OPEN_WORDS {
         return false;
     }
     if table.len() < count {
@@ -43,10 +45,10 @@ fn opened(said: &[usize], o: Opened, table: &[usize]) -> bool
         return false;
     }
     let d = o.description;
-    if !same_words(&said[3..20], &description_words(d)) {
+    if !same_words(&said[3..OPEN_WORDS], &description_words(d)) {
         return false;
     }
-    if !same_words(&said[20..], &table[..count]) {
+    if !same_words(&said[OPEN_WORDS..], &table[..count]) {
         return false;
     }
     kept_words(&table[count..])

@@ -1,5 +1,5 @@
 // Asks for planes and rectangles of the files of standard input, and compares every answer with the Rust's, sample by sample, and the
-// lent memory past an answer with what was in it. A line is as vector_text has it, with the letter `p` or `r`.
+// lent memory past an answer with what was in it. A line is as vectors::text has it, with the letter `p` or `r`.
 use crate::picture::agrees;
 use libc::STDIN_FILENO;
 use libc::STDOUT_FILENO;
@@ -66,7 +66,7 @@ fn compare(text: &[u8]) -> Tally
     while at < text.len() {
         let mut numbers = [0usize; 1024];
         let mut bytes = [0u8; 4096];
-        let line = vector_text::line_at(text, at, &mut numbers, &mut bytes);
+        let line = vectors::text::line_at(text, at, &mut numbers, &mut bytes);
         let count = line.count;
         let len = line.len;
         let same = agrees(line.kind, &numbers[..count], &bytes[..len]);

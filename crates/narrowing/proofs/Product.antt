@@ -2,7 +2,7 @@
 -- Assumes nothing.
 use mathlib.Core.Path.{_≡_, refl, sym, ap, _∙_, subst}
 use Prim.Native.Nat.{ℕ, zero, suc, _+_, _*_, _^_, _≤_, _<_}
-use mathlib.Core.Bool.{Bool, true, false, not, cond}
+use mathlib.Core.Bool.{Bool, true, false, not, cond, false≢true}
 use lib.Dec.{T, ltb}
 use lib.Bits.{bitAnd, and-mask}
 use lib.Ieee.{Float, nan, inf, fin, Format, binary32, binary64, prec, emax, low, unlike, up, down}
@@ -63,8 +63,8 @@ tested b = nanBits-above binary64 b ∙ ap (ltb 0x7ff0_0000_0000_0000) (sym (and
 is-nan : (v : Float) → isNan v ≡ true → v ≡ nan
 unfolding isNan
 is-nan nan h = refl
-is-nan (inf s) h = absurd (subst T (sym h) tt)
-is-nan (fin s m e) h = absurd (subst T (sym h) tt)
+is-nan (inf s) h = absurd (false≢true h)
+is-nan (fin s m e) h = absurd (false≢true h)
 
 pub pattern-nan : (b : ℕ) → 0x7ff0_0000_0000_0000 < bitAnd b 0x7fff_ffff_ffff_ffff → ofBits binary64 b ≡ nan
 pattern-nan b h = is-nan (ofBits binary64 b) (sym (nanBits-is binary64 b) ∙ tested b ∙ lt-ltb _ _ h)

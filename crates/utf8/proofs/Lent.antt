@@ -10,6 +10,7 @@ use lib.ListN.{length, take, drop}
 use lib.Seq.{take-at, drop-at}
 use Rattle.lsm_format.specs.Answer.{accepted, refused, tooShort}
 use Rattle.lsm_format.specs.Lent.{lend}
+use Rattle.lsm_format.proofs.Apart.{no-case}
 use Rattle.lsm_format.proofs.Lent.{lend-room, lend-short, filled-room, filled-short}
 use Rattle.lsm_format.specs.Utf8.{lossy}
 use Rattle.lsm_format.specs.Code.{rowOf}
@@ -50,15 +51,13 @@ accepted-by needed room n true t e =
     (q, omega (arith, leb-true needed room t))
 accepted-by needed room n false t e =
     let f : lend needed room ≡ refused (tooShort (min needed (2 ^ 64 - 1))) = lend-short needed room (leb-false needed room t) in
-    let z : _≡_ {A = ℕ} 0 1 = cc in
-    absurd (omega arith)
+    no-case cc
 
 refused-by : (needed room : ℕ) (row : List ℕ) (t : Bool) → leb needed room ≡ t → refused row ≡ lend needed room
     → (room < needed) × (row ≡ tooShort (min needed (2 ^ 64 - 1)))
 refused-by needed room row true t e =
     let f : lend needed room ≡ accepted needed = lend-room needed room (leb-true needed room t) in
-    let z : _≡_ {A = ℕ} 0 1 = cc in
-    absurd (omega arith)
+    no-case cc
 refused-by needed room row false t e =
     let f : lend needed room ≡ refused (tooShort (min needed (2 ^ 64 - 1))) = lend-short needed room (leb-false needed room t) in
     let q : row ≡ tooShort (min needed (2 ^ 64 - 1)) = cc in

@@ -1,10 +1,10 @@
 // Decodes the bytes of each line of standard input, and compares with the text that the line says. A line has the bytes, a
-// space and the text, both as vector_text has bytes. tools/utf8_vectors.rs writes the list.
+// space and the text, both as vectors::text has bytes. tools/utf8_vectors.rs writes the list.
 use libc::STDIN_FILENO;
 use libc::STDOUT_FILENO;
 use utf8::Decoded;
-use vector_numbers::holds;
-use vector_text::bytes_at;
+use vectors::numbers::holds;
+use vectors::text::bytes_at;
 ghost use mathlib.Core.Path.{_≡_};
 ghost use mathlib.Core.Bool.{true};
 ghost use Prim.Native.Nat.{_<_, _≤_};

@@ -48,17 +48,26 @@ extern "C" {
     ) -> usize;
 }
 
+/// How many words a description has (`LSM_DESCRIPTION_WORDS`). Later versions add words at the end only.
+pub const DESCRIPTION_WORDS: usize = 17;
+/// How many words `open` answers.
+pub const OPEN_WORDS: usize = 3 + DESCRIPTION_WORDS;
+/// How many words `channel` answers.
+pub const CHANNEL_WORDS: usize = 8;
+/// How many words `plane` and `region` answer.
+pub const PICTURE_WORDS: usize = 5;
+
 /// Whether the library has plane and region.
 pub const PICTURES: bool = cfg!(not(lsm_lacks_pictures));
 
 /// `lsm_open`.
-pub fn open(file: &[u8], table: &mut [usize], answer: &mut [usize; 20]) -> usize {
+pub fn open(file: &[u8], table: &mut [usize], answer: &mut [usize; OPEN_WORDS]) -> usize {
     // SAFETY: every pointer goes with its slice's length or has the array's fixed length, and lives through the call.
     unsafe { lsm_open(file.as_ptr(), file.len(), table.as_mut_ptr(), table.len(), answer.as_mut_ptr()) }
 }
 
 /// `lsm_channel`.
-pub fn channel(file: &[u8], description: &[usize; 17], channel: usize, name: &mut [u8], answer: &mut [usize; 8]) -> usize {
+pub fn channel(file: &[u8], description: &[usize; DESCRIPTION_WORDS], channel: usize, name: &mut [u8], answer: &mut [usize; CHANNEL_WORDS]) -> usize {
     // SAFETY: as in `open`.
     unsafe {
         lsm_channel(
@@ -77,11 +86,11 @@ pub fn channel(file: &[u8], description: &[usize; 17], channel: usize, name: &mu
 #[cfg(not(lsm_lacks_pictures))]
 pub fn plane(
     file: &[u8],
-    description: &[usize; 17],
+    description: &[usize; DESCRIPTION_WORDS],
     table: &[usize],
     at: [usize; 4],
     out: &mut [u8],
-    answer: &mut [usize; 5],
+    answer: &mut [usize; PICTURE_WORDS],
 ) -> usize {
     // SAFETY: as in `open`.
     unsafe {
@@ -106,12 +115,12 @@ pub fn plane(
 #[cfg(not(lsm_lacks_pictures))]
 pub fn region(
     file: &[u8],
-    description: &[usize; 17],
+    description: &[usize; DESCRIPTION_WORDS],
     table: &[usize],
     at: [usize; 4],
     rect: [usize; 4],
     out: &mut [u8],
-    answer: &mut [usize; 5],
+    answer: &mut [usize; PICTURE_WORDS],
 ) -> usize {
     // SAFETY: as in `open`.
     unsafe {
@@ -138,12 +147,12 @@ pub fn region(
 
 /// A library without plane is never asked for one: look at [`PICTURES`] first.
 #[cfg(lsm_lacks_pictures)]
-pub fn plane(_: &[u8], _: &[usize; 17], _: &[usize], _: [usize; 4], _: &mut [u8], _: &mut [usize; 5]) -> usize {
+pub fn plane(_: &[u8], _: &[usize; DESCRIPTION_WORDS], _: &[usize], _: [usize; 4], _: &mut [u8], _: &mut [usize; PICTURE_WORDS]) -> usize {
     panic!("the library has no plane")
 }
 
 /// As `plane`.
 #[cfg(lsm_lacks_pictures)]
-pub fn region(_: &[u8], _: &[usize; 17], _: &[usize], _: [usize; 4], _: [usize; 4], _: &mut [u8], _: &mut [usize; 5]) -> usize {
+pub fn region(_: &[u8], _: &[usize; DESCRIPTION_WORDS], _: &[usize], _: [usize; 4], _: [usize; 4], _: &mut [u8], _: &mut [usize; PICTURE_WORDS]) -> usize {
     panic!("the library has no region")
 }

@@ -1,3 +1,5 @@
+use crate::c::DESCRIPTION_WORDS;
+
 /// Byte order of a file.
 #[derive(Debug, Clone, Copy, PartialEq, Eq)]
 pub enum Order {
@@ -71,9 +73,9 @@ pub struct Description {
 }
 
 impl Description {
-    /// The 17 words that the C functions take. What is absent is 0.
-    pub fn words(&self) -> [usize; 17] {
-        let mut w = [0; 17];
+    /// The words that the C functions take. What is absent is 0.
+    pub fn words(&self) -> [usize; DESCRIPTION_WORDS] {
+        let mut w = [0; DESCRIPTION_WORDS];
         w[0] = self.order as usize;
         w[1] = self.kind as usize;
         w[2..7].copy_from_slice(&[self.t, self.c, self.z, self.y, self.x]);
@@ -98,9 +100,9 @@ impl Description {
         w
     }
 
-    /// The description that 17 words are. `None` for an order, kind or choice outside its numbers, and for an f32 above 32 bits or
+    /// The description that words are. `None` for an order, kind or choice outside its numbers, and for an f32 above 32 bits or
     /// with a NaN's pattern. Words of what is absent don't count.
-    pub fn from_words(w: &[usize; 17]) -> Option<Description> {
+    pub fn from_words(w: &[usize; DESCRIPTION_WORDS]) -> Option<Description> {
         let float = |word: usize| {
             let f = f32::from_bits(u32::try_from(word).ok()?);
             (!f.is_nan()).then_some(f)

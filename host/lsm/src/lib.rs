@@ -74,10 +74,10 @@ fn refused(number: usize, answer: &[usize]) -> Refusal {
 ///
 /// Where `table` is too short and nothing else is in the way, the refusal is [`Refusal::TooShort`] with the words it takes.
 pub fn open(file: &[u8], table: &mut [usize]) -> Result<Opened, Refusal> {
-    let mut answer = [0; 20];
+    let mut answer = [0; c::OPEN_WORDS];
     match c::open(file, table, &mut answer) {
         0 => {
-            let mut words = [0; 17];
+            let mut words = [0; c::DESCRIPTION_WORDS];
             words.copy_from_slice(&answer[3..]);
             let description = Description::from_words(&words).unwrap_or_else(|| panic!("no description: {words:?}"));
             Ok(Opened { visited: answer[1], words: answer[2], description })
@@ -88,7 +88,7 @@ pub fn open(file: &[u8], table: &mut [usize]) -> Result<Opened, Refusal> {
 
 /// Looks up a channel's colour and name. The name's bytes go to lent memory; 3,072 bytes hold any name.
 pub fn channel(file: &[u8], description: &Description, channel: usize, name: &mut [u8]) -> Result<Channel, Refusal> {
-    let mut answer = [0; 8];
+    let mut answer = [0; c::CHANNEL_WORDS];
     match c::channel(file, &description.words(), channel, name, &mut answer) {
         0 => Ok(Channel {
             colour: (answer[1] == 1).then(|| [answer[2] as u8, answer[3] as u8, answer[4] as u8]),
@@ -111,7 +111,7 @@ pub fn plane(
     z: usize,
     out: &mut [u8],
 ) -> Result<Picture, Refusal> {
-    let mut answer = [0; 5];
+    let mut answer = [0; c::PICTURE_WORDS];
     match c::plane(file, &description.words(), table, [scene, t, c, z], out, &mut answer) {
         0 => Ok(Picture { height: answer[1], width: answer[2], bytes: answer[3] }),
         n => Err(refused(n, &answer)),
@@ -132,7 +132,7 @@ pub fn region(
     rect: Rect,
     out: &mut [u8],
 ) -> Result<Picture, Refusal> {
-    let mut answer = [0; 5];
+    let mut answer = [0; c::PICTURE_WORDS];
     let part = [rect.x, rect.y, rect.w, rect.h];
     match c::region(file, &description.words(), table, [scene, t, c, z], part, out, &mut answer) {
         0 => Ok(Picture { height: answer[1], width: answer[2], bytes: answer[3] }),

@@ -4,7 +4,7 @@ use borrow.Author.Needs.{needs}
 use mir.ValLaws.{toZ-ofZ}
 use mir.Syntax.{w32}
 use Rattle.lsm_format.specs.Code.{blockOf}
-use Rattle.channel_tables.specs.Parts.{pointersOf}
+use Rattle.lsm_channel_colors.specs.Tables.{pointersOf}
 use Rattle.lsm_channel_colors.proofs.Looked.{stating-nowhere, stating-unread, stating-there}
 use Rattle.lsm_channel_colors.proofs.find_channel.Statement.{statement}
 use Rattle.lsm_channel_colors.proofs.find_channel.Tie as tie

@@ -4,7 +4,7 @@ use mathlib.Core.Path.{refl, _∙_}
 use borrow.Author.Needs.{needs}
 use Rattle.lsm_format.proofs.Channels.{color-past}
 use Rattle.lsm_format.proofs.Words.{told-value, told-overflow, word-some, word-none}
-use Rattle.channel_tables.proofs.Signed.{pointed-told}
+use Rattle.lsm_channel_colors.proofs.Signed.{pointed-told}
 use Rattle.lsm_channel_colors.proofs.Looked.{no-colors, color-is}
 use Rattle.lsm_channel_colors.proofs.read_color.Statement.{statement}
 use Rattle.lsm_channel_colors.proofs.read_color.Tie as tie

@@ -1,7 +1,7 @@
 -- `lsm_cz_info::is_stated` meets its contract, by the number that refuses. Assumes nothing.
 use Rattle.lsm_format.proofs.CzInfo.{not-positive, is-positive, not-natural, is-natural, stated-x, stated-y, stated-z, stated-channels, stated-time, stated-is}
 use Rattle.lsm_cz_info.specs.Code.{statedOf}
-use Rattle.cz_header.proofs.Told.{back}
+use Rattle.lsm_format.proofs.Told.{back}
 use Rattle.lsm_cz_info.proofs.is_stated.Statement.{statement}
 use Rattle.lsm_cz_info.proofs.is_stated.Tie as tie
 

@@ -5,11 +5,11 @@ use mathlib.Core.Path.{sym, ap, _∙_}
 use lib.IntN.{natAbs}
 use lib.Signed.{natAbs-le}
 use borrow.Author.Tests.{not-true, not-false}
-use Rattle.cz_header.specs.Code.{lengthOf}
+use Rattle.lsm_cz_info.specs.Header.{lengthOf}
 use Rattle.lsm_cz_info.specs.Code.{statedOf, extentsOf, voxelsOf, channelOf, shotsOf}
 use Rattle.lsm_format.proofs.CzInfo.{natural-nonneg, natural-size, stated-natural, header-fits}
 use Rattle.lsm_format.proofs.CzInfo.{cz-header, cz-extents, cz-unstated, cz-voxels, cz-channel, cz-shots, cz-is}
-use Rattle.cz_header.proofs.Told.{told, back}
+use Rattle.lsm_format.proofs.Told.{told, back}
 use borrow.Author.Needs.{needs}
 use Rattle.lsm_cz_info.proofs.parse.Statement.{statement}
 use Rattle.lsm_cz_info.proofs.parse.Tie as tie

@@ -3,7 +3,7 @@ use mathlib.Core.Path.{ap, _∙_}
 use Rattle.lsm_format.specs.CzInfo.{place}
 use Rattle.lsm_bytes.specs.Code.{i32Of}
 use Rattle.lsm_format.proofs.CzInfo.{from-short, from-long, channel-no-place, channel-is}
-use Rattle.cz_header.proofs.Told.{told, back}
+use Rattle.lsm_format.proofs.Told.{told, back}
 use borrow.Author.Needs.{needs}
 use Rattle.lsm_cz_info.proofs.read_channel_block.Statement.{statement}
 use Rattle.lsm_cz_info.proofs.read_channel_block.Tie as tie

@@ -1,7 +1,7 @@
 -- `lsm_cz_info::read_extents` meets its contract. Assumes nothing.
 use Rattle.lsm_bytes.specs.Code.{i32Of}
 use Rattle.lsm_format.proofs.CzInfo.{extents-no-x, extents-no-y, extents-no-z, extents-no-channels, extents-no-time, extents-is}
-use Rattle.cz_header.proofs.Told.{told, back}
+use Rattle.lsm_format.proofs.Told.{told, back}
 use borrow.Author.Needs.{needs}
 use Rattle.lsm_cz_info.proofs.read_extents.Statement.{statement}
 use Rattle.lsm_cz_info.proofs.read_extents.Tie as tie

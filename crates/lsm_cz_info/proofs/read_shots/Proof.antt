@@ -1,7 +1,7 @@
 -- `lsm_cz_info::read_shots` meets its contract. Assumes nothing.
 use Rattle.lsm_bytes.specs.Code.{i32Of}
 use Rattle.lsm_format.proofs.CzInfo.{from-short, from-long, shots-no-p, shots-no-m, shots-is}
-use Rattle.cz_header.proofs.Told.{told, back}
+use Rattle.lsm_format.proofs.Told.{told, back}
 use borrow.Author.Needs.{needs}
 use Rattle.lsm_cz_info.proofs.read_shots.Statement.{statement}
 use Rattle.lsm_cz_info.proofs.read_shots.Tie as tie

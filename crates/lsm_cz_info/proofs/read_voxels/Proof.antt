@@ -1,7 +1,7 @@
 -- `lsm_cz_info::read_voxels` meets its contract. Assumes nothing.
 use Rattle.lsm_bytes.specs.Code.{f64BitsOf}
 use Rattle.lsm_format.proofs.CzInfo.{from-short, from-long, voxels-no-x, voxels-no-y, voxels-no-z, voxels-is}
-use Rattle.cz_header.proofs.Told.{told}
+use Rattle.lsm_format.proofs.Told.{told}
 use borrow.Author.Needs.{needs}
 use Rattle.lsm_cz_info.proofs.read_voxels.Statement.{statement}
 use Rattle.lsm_cz_info.proofs.read_voxels.Tie as tie

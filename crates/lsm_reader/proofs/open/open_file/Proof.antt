@@ -4,7 +4,8 @@ use Rattle.lsm_reader.proofs.Opens.{read-large, read-no-header, read-no
 use native.Mathlib.Omega.{arith}
 use mathlib.Core.Path.{refl, sym, ap, _∙_}
 use denote.Ref.{now}
-use Rattle.lsm_description.specs.Code.{headerOf, describedOf}
+use Rattle.lsm_description.specs.Code.{describedOf}
+use Rattle.lsm_reader.specs.Header.{headerOf}
 use Rattle.lsm_reader.proofs.Words.{walked-words}
 use borrow.Author.Needs.{needs}
 use Rattle.lsm_reader.proofs.open.open_file.Statement.{statement}

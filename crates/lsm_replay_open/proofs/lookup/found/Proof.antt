@@ -2,7 +2,7 @@
 use Prim.Native.Nat.{ℕ}
 use native.Mathlib.Omega.{arith}
 use mathlib.Core.Path.{_≡_}
-use Rattle.vector_same.proofs.Laws.{taken}
+use Rattle.vectors.proofs.Compared.{taken}
 use borrow.Author.Needs.{needs}
 use Rattle.lsm_replay_open.proofs.lookup.found.Statement.{statement}
 use Rattle.lsm_replay_open.proofs.lookup.found.Tie as tie

@@ -3,7 +3,7 @@ use Prim.Native.Nat.{ℕ}
 use native.Mathlib.Omega.{arith}
 use mathlib.Core.Path.{_≡_}
 use borrow.Author.Needs.{needs}
-use Rattle.vector_same.proofs.Laws.{taken}
+use Rattle.vectors.proofs.Compared.{taken}
 use Rattle.lsm_replay_open.proofs.opening.opening.Statement.{statement}
 use Rattle.lsm_replay_open.proofs.opening.opening.Tie as tie
 

@@ -2,7 +2,7 @@
 use Prim.Native.Nat.{ℕ}
 use native.Mathlib.Omega.{arith}
 use mathlib.Core.Path.{_≡_}
-use Rattle.vector_same.proofs.Laws.{taken, rested}
+use Rattle.vectors.proofs.Compared.{taken, rested}
 use borrow.Author.Needs.{needs}
 use Rattle.lsm_replay_pictures.proofs.picture.read.Statement.{statement}
 use Rattle.lsm_replay_pictures.proofs.picture.read.Tie as tie

@@ -1,0 +1,4 @@
+pub mod Calibration
+pub mod Description
+pub mod Answers
+pub mod Code
