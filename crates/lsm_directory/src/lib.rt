@@ -23,7 +23,7 @@ ghost use Rattle.lsm_format.specs.Numbers.{Order};
 ghost use Rattle.lsm_format.specs.Directory as Rule;
 ghost use Rattle.lsm_format.specs.Directory.{plain, tagOf, isReduced, isShort, put, putCz, putField, czLsmInfo, entryBy, entry};
 ghost use Rattle.lsm_format.specs.Open.{sameGeometry};
-ghost use Rattle.lsm_directory.specs.Pages.{directoryEnds, pageAgrees};
+ghost use Rattle.lsm_format.specs.Open as Open;
 ghost use Rattle.lsm_directory.specs.Code.{fieldMeant, tagMeant, directoryOf, putStated, stepOf, endsOf, SmallEnds, firstMeant};
 
 // The CZ-LSM-Info entry: where its block stands and how many bytes it declares.
@@ -292,7 +292,7 @@ pub enum Ends {
 
 // A directory's count of entries and its next pointer, which comes before any entry.
 pub fn directory_ends(buf: &[u8], place: usize, e: Endian) -> Ends
-    ensures ends { λ r. ⌜ endsOf r ≡ directoryEnds (orderOf e) (now (buf .entry)) place ⌝ }
+    ensures ends { λ r. ⌜ endsOf r ≡ Rule.ends (orderOf e) (now (buf .entry)) place ⌝ }
     ensures small { λ r. ⌜ SmallEnds r ⌝ }
 {
     let U16::Value(n) = read_u16(buf, place, e) else {
@@ -351,7 +351,7 @@ fn page_check(geometry: bool, strips: bool) -> Check
 // Whether a directory whose entries are all read can stand where it does: it has as many strip lengths as offsets, and a full page
 // agrees with the first.
 pub fn agrees(first: First, d: Directory) -> Check
-    ensures { λ r. ⌜ ((o : Order) (f : List ℕ) → checkOf r ≡ pageAgrees (firstMeant o f first) (directoryOf o f d)) ⌝ }
+    ensures { λ r. ⌜ ((o : Order) (f : List ℕ) → checkOf r ≡ Open.agrees (firstMeant o f first) (directoryOf o f d)) ⌝ }
 {
     let offsets = d.offsets;
     let counts = d.counts;

@@ -4,7 +4,6 @@ use mathlib.Core.Bool.{Bool, true, false, not, _&&_, _||_, cond}
 use mathlib.Core.Option.{Option, none, some}
 use mathlib.Core.List.{List, [], _∷_}
 use lib.Dec.{leb, ltb, eqb}
-use lib.ListN.{length}
 use Rattle.lsm_format.specs.Answer.{Result, accepted, bind, need, given, decode}
 use Rattle.lsm_format.specs.Ranges.{Ranges, none as nothing, both, over, inFile}
 use Rattle.lsm_format.specs.Numbers.{Order, numberAt, u16At, u32At}
@@ -194,15 +193,15 @@ unfoldable pub entries : ℕ → Order → List ℕ → ℕ → ℕ → Director
 entries zero o f base i d = accepted d
 entries (suc n) o f base i d = bind (entry o f (base + 12 * i) d) (λ e. entries n o f base (i + 1) e)
 
--- A directory and where the next one stands; 0 where there is none. TIFF 6.0: "a 2-byte count of the number of directory entries,
--- followed by a sequence of 12-byte field entries, followed by a 4-byte offset of the next IFD". "per directory, the next pointer,
--- the entries in turn, equal array lengths"
+-- A directory's ends: how many entries it has, and where the next directory stands; 0 where there is none. TIFF 6.0: "a 2-byte count of
+-- the number of directory entries, followed by a sequence of 12-byte field entries, followed by a 4-byte offset of the next IFD".
+unfoldable pub ends : Order → List ℕ → ℕ → Result (ℕ × ℕ)
+ends o f place = bind (u16At o f place) (λ n. bind (u32At o f (place + 2 + 12 * n)) (λ next. accepted (n, next)))
+
+-- A directory and where the next one stands: "per directory, the next pointer, the entries in turn". What it is held to then is `agrees` in
+-- Open.
 unfoldable pub directory : Order → List ℕ → ℕ → Result (Directory × ℕ)
-directory o f place =
-    bind (u16At o f place) (λ n.
-    bind (u32At o f (place + 2 + 12 * n)) (λ next.
-    bind (entries n o f (place + 2) 0 plain) (λ d.
-    bind (need decode (eqb (length (d .offsets)) (length (d .counts)))) (λ _. accepted (d, next)))))
+directory o f place = bind (ends o f place) (λ e. bind (entries (e .0) o f (place + 2) 0 plain) (λ d. accepted (d, e .1)))
 
 -- ---- what is read
 

@@ -34,6 +34,32 @@ tiffHeader f =
     bind (orderMark (getD f 0 0) (getD f 1 0)) (λ o.
     bind (u16At o f 2) (λ magic. bind (need parse (eqb magic 42)) (λ _. accepted o))))
 
+-- ---- what a directory is held to
+
+-- "agreement with the first full page (geometry 3 [..])": as stored, PlanarConfiguration only as being 2 or not
+abbrev pub sameGeometry : Directory → Directory → Bool
+sameGeometry a b =
+    eqb (a .width) (b .width)
+    && eqb (a .height) (b .height)
+    && eqb (a .samples) (b .samples)
+    && eqb (a .bits) (b .bits)
+    && eqb (a .format) (b .format)
+    && eqb (a .compression) (b .compression)
+    && Bool·beq (a .planar) (b .planar)
+
+-- "agreement with the first full page (geometry 3, then strip count 2)"; with no page, nothing is asked.
+abbrev pub agreesWith : Option Directory → Directory → Result (Unit {0})
+agreesWith none d = accepted tt
+agreesWith (some p) d =
+    bind (need unsupported (sameGeometry d p)) (λ _. need decode (eqb (length (d .offsets)) (length (p .offsets))))
+
+-- What a directory whose entries are all read is held to, a line each: "equal array lengths, agreement with the first full page". A
+-- reduced page and the first full one agree with nothing.
+unfoldable pub agrees : Option Directory → Directory → Result (Unit {0})
+agrees first d =
+    bind (need decode (eqb (length (d .offsets)) (length (d .counts)))) (λ _.
+    agreesWith (cond (d .reduced) none first) d)
+
 -- ---- the chain of directories
 
 -- The two strip arrays of a full page.
@@ -51,44 +77,34 @@ pub record Walk : Type 0 where
 abbrev pub start : Walk
 start = record { visited = 0; first = none; pages = []; cz = none }
 
--- "agreement with the first full page (geometry 3 [..])": as stored, PlanarConfiguration only as being 2 or not
-abbrev pub sameGeometry : Directory → Directory → Bool
-sameGeometry a b =
-    eqb (a .width) (b .width)
-    && eqb (a .height) (b .height)
-    && eqb (a .samples) (b .samples)
-    && eqb (a .bits) (b .bits)
-    && eqb (a .format) (b .format)
-    && eqb (a .compression) (b .compression)
-    && Bool·beq (a .planar) (b .planar)
+-- Of two, the earlier: "the first directory that has one wins".
+abbrev pub earlier : {A : Type 0} → Option A → Option A → Option A
+earlier none later = later
+earlier (some a) later = some a
 
--- "the first directory that has one wins"
-abbrev pub firstOf : Option (ℕ × ℕ) → Option (ℕ × ℕ) → Option (ℕ × ℕ)
-firstOf none later = later
-firstOf (some cz) later = some cz
+-- The full page that a directory is, and its strip arrays: a reduced page "gives no picture".
+abbrev pub fullPage : Directory → Option Directory
+fullPage d = cond (d .reduced) none (some d)
 
 abbrev pub arraysOf : Directory → Page
 arraysOf d = record { offsets = d .offsets; counts = d .counts }
 
--- A directory joins the walk. A reduced page "gives no picture but may supply the CZ entry"; a full page agrees with the first:
--- "geometry 3, then strip count 2".
-abbrev pub joinBy : Bool → Option Directory → Walk → Directory → Result Walk
-joinBy true first w d =
-    accepted (record { visited = w .visited + 1; first = w .first; pages = w .pages; cz = firstOf (w .cz) (d .cz) })
-joinBy false none w d =
-    accepted (record { visited = w .visited + 1; first = some d; pages = w .pages ++ arraysOf d ∷ []; cz = firstOf (w .cz) (d .cz) })
-joinBy false (some p) w d =
-    bind (need unsupported (sameGeometry d p)) (λ _.
-    bind (need decode (eqb (length (d .offsets)) (length (p .offsets)))) (λ _.
-    accepted (record {
-      visited = w .visited + 1;
-      first = some p;
-      pages = w .pages ++ arraysOf d ∷ [];
-      cz = firstOf (w .cz) (d .cz);
-    })))
+abbrev pub pagesOf : Directory → List Page
+pagesOf d = cond (d .reduced) [] (arraysOf d ∷ [])
 
+-- The walk with one directory more. A reduced page "may supply the CZ entry".
+abbrev pub joined : Walk → Directory → Walk
+joined w d =
+    record {
+      visited = w .visited + 1;
+      first = earlier (w .first) (fullPage d);
+      pages = w .pages ++ pagesOf d;
+      cz = earlier (w .cz) (d .cz);
+    }
+
+-- A directory that agrees joins the walk.
 unfoldable pub join : Walk → Directory → Result Walk
-join w d = joinBy (d .reduced) (w .first) w d
+join w d = bind (agrees (w .first) d) (λ _. accepted (joined w d))
 
 -- The chain from a place on, with at most so many directories more. "The 1,000,001st visited directory is Parse; exactly 1,000,000
 -- pass."

@@ -3,17 +3,39 @@ use Prim.Native.Nat.{ℕ, zero, suc, _+_, _*_, _≤_, _<_}
 use native.Mathlib.Nat.{mul-suc, mul-zero}
 use native.Mathlib.Omega.{arith}
 use mathlib.Core.Bool.{Bool, true, false}
-use mathlib.Core.Path.{_≡_, refl}
+use mathlib.Core.Path.{_≡_, refl, sym, _∙_}
 use mathlib.Core.List.{List}
 use lib.Dec.{leb}
 use lib.ListN.{length}
 use borrow.Author.Tests.{leb-true, leb-false}
+use Rattle.lsm_format.specs.Answer.{Result, accepted, refused, bind}
 use Rattle.lsm_format.specs.Ranges.{inFile, On, Agree}
-use Rattle.lsm_format.specs.Numbers.{Order}
-use Rattle.lsm_format.specs.Directory.{placeBy, valuePlace, scalarPlace, scalar, scalarRanges, arrayPlace, numbers, array, arrayRanges, Directory, plain, Tag, field, stripOffsets, stripByteCounts, czLsmInfo, other, tagOf, entryBy, entryByRanges, entry, entryRanges, entries, entriesRanges, directory, directoryRanges}
+use Rattle.lsm_format.specs.Numbers.{Order, u16At, u32At}
+use Rattle.lsm_format.specs.Directory.{placeBy, valuePlace, scalarPlace, scalar, scalarRanges, arrayPlace, numbers, array, arrayRanges, Directory, plain, Tag, field, stripOffsets, stripByteCounts, czLsmInfo, other, tagOf, entryBy, entryByRanges, entry, entryRanges, entries, entriesRanges, ends, directory, directoryRanges}
 use Rattle.lsm_format.proofs.Numbers.{number-inside}
 use Rattle.lsm_format.proofs.Directory.{numbers-past}
 use Rattle.lsm_overwrite.proofs.TwoFiles.{bind-law, bind-told, over-law, on-part, in-file-at, number-law, number-listed, number-last}
+
+-- a directory, number by number
+ends-after : {A : Type 0} (n : ℕ) (r : Result ℕ) (rest : ℕ → ℕ → Result A) →
+    bind {A = ℕ × ℕ} (bind r (λ next. accepted (n, next))) (λ e. rest (e .0) (e .1)) ≡ bind r (λ next. rest n next)
+unfolding bind
+ends-after n (accepted next) rest = refl
+ends-after n (refused row) rest = refl
+
+ends-first : {A : Type 0} (r : Result ℕ) (u : ℕ → Result ℕ) (rest : ℕ → ℕ → Result A) →
+    bind {A = ℕ × ℕ} (bind r (λ n. bind (u n) (λ next. accepted (n, next)))) (λ e. rest (e .0) (e .1)) ≡ bind r (λ n. bind (u n) (λ next. rest n next))
+unfolding bind
+ends-first (accepted n) u rest = ends-after n (u n) rest
+ends-first (refused row) u rest = refl
+
+directory-steps : (o : Order) (f : List ℕ) (place : ℕ) →
+    directory o f place
+    ≡ bind (u16At o f place) (λ n.
+    bind (u32At o f (place + 2 + 12 * n)) (λ next. bind (entries n o f (place + 2) 0 plain) (λ d. accepted (d, next))))
+unfolding directory ends
+directory-steps o f place =
+    ends-first (u16At o f place) (λ n. u32At o f (place + 2 + 12 * n)) (λ n next. bind (entries n o f (place + 2) 0 plain) (λ d. accepted (d, next)))
 
 module _ (f g : List ℕ) (len : length g ≡ length f) where
   -- the offset of values is read from the entry itself
@@ -100,10 +122,12 @@ module _ (f g : List ℕ) (len : length g ≡ length f) where
       (λ e. entries-law k o s n base (i + 1) e h (omega arith) (a .1))
 
   pub directory-law : (o : Order) (place : ℕ) → Agree f g (directoryRanges o f place) → directory o g place ≡ directory o f place
-  unfolding directory directoryRanges
+  unfolding directoryRanges
   directory-law o place a =
-      over-law f g _ _ (number-listed f g len 2 o place (a .0)) (a .1) (λ n b.
+      directory-steps o g place
+      ∙ over-law f g _ _ (number-listed f g len 2 o place (a .0)) (a .1) (λ n b.
       bind-told _ (number-last f g len 4 o place (6 + 12 * n) (place + 2 + 12 * n) (omega arith) (b .0)) (λ next e.
       let inside : place + 2 + 12 * n + 4 ≤ length f = number-inside 4 o f (place + 2 + 12 * n) next e in
       let on : On f g place (6 + 12 * n) = rw (in-file-at f place (6 + 12 * n) (omega arith)) at (b .0) in
       bind-law _ (entries-law n o place (6 + 12 * n) (place + 2) 0 plain on (omega arith) (b .1)) (λ d. refl)))
+      ∙ sym (directory-steps o f place)

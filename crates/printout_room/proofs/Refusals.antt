@@ -12,8 +12,8 @@ use Rattle.lsm_format.specs.Numbers.{Order, partAt, numberAt, i32At}
 use Rattle.lsm_format.specs.Scenes.{count, scenes, layout, pagesExpected}
 use Rattle.lsm_format.specs.Lent.{lend}
 use Rattle.lsm_format.specs.CzInfo.{CzInfo, header, extents, voxels, channelBlock, shots, from, czInfo}
-use Rattle.lsm_format.specs.Directory.{Directory, Tag, field, stripOffsets, stripByteCounts, czLsmInfo, other, placeBy, valuePlace, scalarPlace, scalar, elementSize, arrayPlace, numbers, array, entryBy, entry, entries, directory}
-use Rattle.lsm_format.specs.Open.{Walk, tiffHeader, joinBy, join, chain, walk, agreement, layoutFor, describe, describeWalk, read, openFile, fileLimit}
+use Rattle.lsm_format.specs.Directory.{Directory, Tag, field, stripOffsets, stripByteCounts, czLsmInfo, other, placeBy, valuePlace, scalarPlace, scalar, elementSize, arrayPlace, numbers, array, entryBy, entry, entries, ends, directory}
+use Rattle.lsm_format.specs.Open.{agreesWith, agrees, Walk, tiffHeader, join, chain, walk, agreement, layoutFor, describe, describeWalk, read, openFile, fileLimit}
 use Rattle.lsm_format.specs.Printout.{numbersText}
 use Rattle.printout_room.proofs.Lengths.{decimal-length}
 
@@ -146,19 +146,18 @@ entries-refuse (suc n) o f base i d =
     bind-refuses _ _ (entry-refuses o f (base + 12 * i) d) (λ e. entries-refuse n o f base (i + 1) e)
 
 directory-refuses : (o : Order) (f : List ℕ) (place : ℕ) → Refusing (directory o f place)
-unfolding directory
+unfolding directory ends
 directory-refuses o f place = search (steps, number-refuses, entries-refuse) depth 12
 
 -- ---- the walk
 
-join-by : (b : Bool) (x : Option Directory) (w : Walk) (d : Directory) → Refusing (joinBy b x w d)
-join-by true x w d = search steps
-join-by false none w d = search steps
-join-by false (some p) w d = search steps
+agrees-with : (x : Option Directory) (d : Directory) → Refusing (agreesWith x d)
+agrees-with none d = search steps
+agrees-with (some p) d = search steps
 
 join-refuses : (w : Walk) (d : Directory) → Refusing (join w d)
-unfolding join
-join-refuses w d = join-by (d .reduced) (w .first) w d
+unfolding join agrees
+join-refuses w d = search (steps, agrees-with) depth 12
 
 chain-refuses : (n : ℕ) (b : Bool) (o : Order) (f : List ℕ) (place : ℕ) (w : Walk) → Refusing (chain n b o f place w)
 unfolding chain

@@ -1,6 +1,8 @@
 use Rattle.lsm_reader.proofs.Walks.{one-more}
-use Rattle.lsm_directory.specs.Code.{directoryOf}
+use Rattle.lsm_directory.specs.Code.{directoryOf, firstMeant}
 use Rattle.lsm_format.specs.Open.{arraysOf}
+use mathlib.Core.List.{append-nil}
+use Rattle.lsm_format.proofs.Open.{stays}
 use native.Mathlib.Omega.{arith}
 use borrow.Author.Needs.{needs}
 use Rattle.lsm_reader.proofs.chain.join.Statement.{statement}
@@ -13,7 +15,9 @@ add-t9 : tie.Need-add-t9
 add-t9 c = search needs
 
 returns : tie.Need-returns
-returns c = (λ o f ps. rw (c .before .if1 .taken, c .before .before .first-entry .ensures), ((omega arith, omega arith), λ o f ps e. rw (c .before .if1 .taken) e))
+returns c =
+    let w = c .before .before .before .args .w in
+    (λ o f ps. rw (c .before .if1 .taken, stays (firstMeant o f (w .first)), c .before .before .first-entry .ensures), ((omega arith, omega arith), λ o f ps e. rw (c .before .if1 .taken, append-nil) e))
 
 enum-known-first : tie.Need-enum-known-first
 enum-known-first c = search needs

@@ -1,6 +1,7 @@
 use denote.Ref.{now}
 use Rattle.lsm_format.specs.Code.{orderOf}
 use Rattle.lsm_reader.proofs.Walks.{words-long, laid-nothing, laid-short, laid-there}
+use mathlib.Core.List.{append-nil}
 use mathlib.Core.Path.{sym}
 use native.Mathlib.Omega.{arith}
 use borrow.Author.Needs.{needs}
@@ -18,7 +19,7 @@ returns-2 c =
     let s = c .before .before .before .before .before .before .before in
     let a = s .args in
     let w = words-long (orderOf (a .e)) (now (a .buf)) (a .d .offsets) (a .d .counts) (sym (s .pre .1)) in
-    rw (c .before .before .before .before .if1 .left) (laid-short _ _ _ (s .pre .0) (omega arith))
+    rw (c .before .before .before .before .if1 .left, append-nil) (laid-short _ _ _ (s .pre .0) (omega arith))
 
 mul-end : tie.Need-mul-end
 mul-end c = search needs
@@ -49,7 +50,7 @@ returns-3 c =
     let s = c .before .before .before .before .before .before .before .before .before .before .before .before in
     let a = s .args in
     let w = words-long (orderOf (a .e)) (now (a .buf)) (a .d .offsets) (a .d .counts) (sym (s .pre .1)) in
-    rw (c .before .before .before .before .before .before .before .before .before .if1 .left) (laid-there _ _ _ _ _ w (omega arith) (c .before .before .fill-strips .ensures))
+    rw (c .before .before .before .before .before .before .before .before .before .if1 .left, append-nil) (laid-there _ _ _ _ _ w (omega arith) (c .before .before .fill-strips .ensures))
 
 pub lay-page-spec : {M : Type 1} → statement M
 lay-page-spec =
