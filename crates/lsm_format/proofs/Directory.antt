@@ -4,8 +4,8 @@ use native.Mathlib.Nat.{mul-suc, mul-zero}
 use native.Mathlib.Omega.{arith}
 use mathlib.Core.Bool.{Bool, true, false, not, _&&_, _||_, cond}
 use mathlib.Core.Logic.{_⊎_, inl, inr}
-use mathlib.Core.Option.{none, some}
-use mathlib.Core.Path.{_≡_, refl, sym}
+use mathlib.Core.Option.{Option, none, some}
+use mathlib.Core.Path.{_≡_, refl, sym, ap, fun-ext}
 use mathlib.Core.List.{List, [], _∷_}
 use lib.Dec.{leb, T, leb→le, lit≤}
 use lib.ListN.{length}
@@ -205,6 +205,14 @@ module _ (o : Order) (f : List ℕ) (e : ℕ) (d : Directory) where
       unfolding entry bind
       entry-is count j t k = rw (h, i, j, k)
 
+-- ---- scalars
+
+-- directories with the same numbers, field by field
+pub same-scalars : (s u : Field → ℕ) (offsets counts : List ℕ) (cz : Option (ℕ × ℕ)) → ((t : Field) → s t ≡ u t) →
+    _≡_ {A = Directory} (record { scalars = s; offsets = offsets; counts = counts; cz = cz }) (record { scalars = u; offsets = offsets; counts = counts; cz = cz })
+same-scalars s u offsets counts cz h =
+    ap {B = Directory} (λ (x : Field → ℕ). record { scalars = x; offsets = offsets; counts = counts; cz = cz }) (fun-ext h)
+
 -- ---- the value of a field
 
 -- a field of 32 bits, or a value of 16, is put into the directory
@@ -216,7 +224,3 @@ field-put t v d (inr h) = by (isShort t)
     by : (b : Bool) → accepted (put t v d) ≡ bind (need decode (not b || leb v 65535)) (λ _. accepted (put t v d))
     by true = rw (le-leb v 65535 h)
     by false = refl
-
-pub field-small : (t : Field) (v : ℕ) → (isShort t ≡ false) ⊎ (v ≤ 65535) → isShort t ≡ true → v ≤ 65535
-field-small t v (inl h) e = let z : _≡_ {A = ℕ} 0 1 = cc in absurd (omega arith)
-field-small t v (inr h) e = h

@@ -1,7 +1,7 @@
 -- Laws of the walk along the directories, a case each. Assumes nothing.
 use Prim.Native.Nat.{ℕ, zero, suc, _+_, _*_, _<_}
 use native.Mathlib.Omega.{arith}
-use mathlib.Core.Bool.{Bool, true, false}
+use mathlib.Core.Bool.{Bool, true, false, Bool·beq}
 use mathlib.Core.Option.{Option, none, some}
 use mathlib.Core.Path.{_≡_, refl}
 use mathlib.Core.List.{List, [], _∷_, _++_, append-assoc}
@@ -10,8 +10,8 @@ use lib.ListN.{length, getD}
 use borrow.Author.Tests.{eq-eqb, ne-eqb}
 use Rattle.lsm_format.specs.Answer.{accepted, refused, bind, need, parse, decode, unsupported}
 use Rattle.lsm_format.specs.Numbers.{Order}
-use Rattle.lsm_format.specs.Directory.{Directory, plain, entry, entries, ends, directory}
-use Rattle.lsm_format.specs.Open.{sameGeometry, agrees, Page, Walk, earlier, joined, join, chain, stripWords, tableWords}
+use Rattle.lsm_format.specs.Directory.{Field, Directory, plain, reduced, planar, entry, entries, ends, directory}
+use Rattle.lsm_format.specs.Open.{geometry, sameOn, sameGeometry, agreesWith, agrees, Page, Walk, earlier, joined, join, chain, stripWords, tableWords}
 
 -- one entry more: the entries from the i-th on
 pub entries-next : (n : ℕ) (o : Order) (f : List ℕ) (base i : ℕ) (d e : Directory) → entry o f (base + 12 * i) d ≡ accepted e →
@@ -30,17 +30,30 @@ entries-done k o f base i d z = rw z
 
 -- ---- what a directory is held to
 
+-- a page has its own geometry
+same-on-self : (ts : List Field) (d : Directory) → sameOn ts d d ≡ true
+same-on-self [] d = refl
+same-on-self (t ∷ ts) d = rw (eq-eqb (d .scalars t) (d .scalars t) refl) (same-on-self ts d)
+
+same-flag : (b : Bool) → Bool·beq b b ≡ true
+same-flag true = refl
+same-flag false = refl
+
+pub agrees-self : (d : Directory) → agreesWith (some d) d ≡ accepted tt
+unfolding bind
+agrees-self d = rw (same-on-self geometry d, same-flag (planar d), eq-eqb (length (d .offsets)) (length (d .offsets)) refl)
+
 module _ (first : Option Directory) (d : Directory) where
   pub agrees-unequal : (length (d .offsets) ≡ length (d .counts) → ⊥) → refused decode ≡ agrees first d
   unfolding agrees bind
   agrees-unequal h = rw (ne-eqb (length (d .offsets)) (length (d .counts)) h)
 
   module _ (e : length (d .offsets) ≡ length (d .counts)) where
-    pub agrees-reduced : d .reduced ≡ true → accepted tt ≡ agrees first d
+    pub agrees-reduced : reduced d ≡ true → accepted tt ≡ agrees first d
     unfolding agrees bind
     agrees-reduced b = rw (eq-eqb (length (d .offsets)) (length (d .counts)) e, b)
 
-    module _ (b : d .reduced ≡ false) where
+    module _ (b : reduced d ≡ false) where
       pub agrees-first : first ≡ none → accepted tt ≡ agrees first d
       unfolding agrees bind
       agrees-first h = rw (eq-eqb (length (d .offsets)) (length (d .counts)) e, b, h)

@@ -12,7 +12,7 @@ use lib.ListN.{length, length-append}
 use borrow.Author.Tests.{eqb-true}
 use Rattle.lsm_format.specs.Answer.{accepted, need, decode, unsupported}
 use Rattle.lsm_format.specs.Numbers.{Order, u32At}
-use Rattle.lsm_format.specs.Directory.{Directory, directory}
+use Rattle.lsm_format.specs.Directory.{Directory, reduced, directory}
 use Rattle.lsm_format.specs.Open.{sameGeometry, agreesWith, agrees, Page, Walk, start, earlier, arraysOf, join, chain, walk, stripWords, tableWords}
 use Rattle.lsm_format.proofs.Accepting.{Accepting, accepting-bind, accepting-then, accepting-need, accepting-map, accepting-told}
 use Rattle.lsm_format.proofs.Open.{strip-words-length, table-words-append}
@@ -39,11 +39,11 @@ with-strips (some p) d =
     accepting-equal decode (length (d .offsets)) (length (p .offsets)))
 
 agrees-strips : (first : Option Directory) (d : Directory) →
-    Accepting (λ (u : Unit {0}). Pairs d × SameStrips (cond (d .reduced) none first) d) (agrees first d)
+    Accepting (λ (u : Unit {0}). Pairs d × SameStrips (cond (reduced d) none first) d) (agrees first d)
 unfolding agrees Pairs
 agrees-strips first d =
     accepting-bind _ _ _ _ (accepting-equal decode (length (d .offsets)) (length (d .counts))) (λ _ pairs.
-    accepting-map (λ (u : Unit {0}). SameStrips (cond (d .reduced) none first) d) _ _ (λ _ s. (pairs, s)) (with-strips _ d))
+    accepting-map (λ (u : Unit {0}). SameStrips (cond (reduced d) none first) d) _ _ (λ _ s. (pairs, s)) (with-strips _ d))
 
 -- a directory that agrees has as many strip lengths as offsets
 pub agreed-arrays : (first : Option Directory) (d : Directory) → agrees first d ≡ accepted tt → length (d .offsets) ≡ length (d .counts)
@@ -73,7 +73,7 @@ even-by false (some q) ps d e p s = even-more (length (q .offsets)) ps d p (sym 
 join-even : (w : Walk) (d : Directory) → Even (w .first) (w .pages) → Accepting (λ (v : Walk). Even (v .first) (v .pages)) (join w d)
 unfolding join Accepting
 join-even w d e =
-    accepting-bind _ _ _ _ (agrees-strips (w .first) d) (λ _ s. even-by (d .reduced) (w .first) (w .pages) d e (s .0) (s .1))
+    accepting-bind _ _ _ _ (agrees-strips (w .first) d) (λ _ s. even-by (reduced d) (w .first) (w .pages) d e (s .0) (s .1))
 
 chain-even : (n : ℕ) (b : Bool) (o : Order) (f : List ℕ) (place : ℕ) (w : Walk) → Even (w .first) (w .pages) →
     Accepting (λ (v : Walk). Even (v .first) (v .pages)) (chain n b o f place w)

@@ -76,43 +76,56 @@ array o f type count place = bind (arrayPlace o f type count place) (λ v. numbe
 
 -- ---- a directory
 
--- What a directory states; of the CZ entry, the block's offset and its declared bytes.
+-- The scalars that are used.
+pub data Field : Type 0 where
+  newSubfileType imageWidth imageLength bitsPerSample compression samplesPerPixel planarConfiguration sampleFormat : Field
+
+-- What a directory states: the number of each scalar; the strip arrays; of the CZ entry, the block's offset and its declared bytes.
 pub record Directory : Type 0 where
-  pub reduced : Bool
-  pub width : ℕ
-  pub height : ℕ
-  pub samples : ℕ
-  pub bits : ℕ
-  pub format : ℕ
-  pub planar : Bool
-  pub compression : ℕ
+  pub scalars : Field → ℕ
   pub offsets : List ℕ
   pub counts : List ℕ
   pub cz : Option (ℕ × ℕ)
 
--- "Absent, width and height are 0, strip arrays empty, NewSubfileType 0, and SamplesPerPixel, BitsPerSample, SampleFormat, Compression
--- and PlanarConfiguration 1."
+-- "Absent, width and height are 0, [..] NewSubfileType 0, and SamplesPerPixel, BitsPerSample, SampleFormat, Compression and
+-- PlanarConfiguration 1."
+abbrev pub defaults : Field → ℕ
+defaults newSubfileType = 0
+defaults imageWidth = 0
+defaults imageLength = 0
+defaults bitsPerSample = 1
+defaults compression = 1
+defaults samplesPerPixel = 1
+defaults planarConfiguration = 1
+defaults sampleFormat = 1
+
+-- "Absent, [..] strip arrays empty"
 abbrev pub plain : Directory
-plain =
-    record {
-      reduced = false;
-      width = 0;
-      height = 0;
-      samples = 1;
-      bits = 1;
-      format = 1;
-      planar = false;
-      compression = 1;
-      offsets = [];
-      counts = [];
-      cz = none;
-    }
+plain = record { scalars = defaults; offsets = []; counts = []; cz = none }
+
+-- "NewSubfileType with bit 0 or 2 set marks a reduced page"
+abbrev pub isReduced : ℕ → Bool
+isReduced v = eqb (v % 2) 1 || eqb (v / 4 % 2) 1
+
+abbrev pub reduced : Directory → Bool
+reduced d = isReduced (d .scalars newSubfileType)
+
+-- PlanarConfiguration counts "only as being 2 or not".
+abbrev pub planar : Directory → Bool
+planar d = eqb (d .scalars planarConfiguration) 2
 
 -- ---- entries
 
--- The tags of scalars that are used, and the tags.
-pub data Field : Type 0 where
-  newSubfileType imageWidth imageLength bitsPerSample compression samplesPerPixel planarConfiguration sampleFormat : Field
+-- The tags: that of a scalar, and the others.
+abbrev pub tagNumber : Field → ℕ
+tagNumber newSubfileType = 254
+tagNumber imageWidth = 256
+tagNumber imageLength = 257
+tagNumber bitsPerSample = 258
+tagNumber compression = 259
+tagNumber samplesPerPixel = 277
+tagNumber planarConfiguration = 284
+tagNumber sampleFormat = 339
 
 pub data Tag : Type 0 where
   field : Field → Tag
@@ -120,32 +133,31 @@ pub data Tag : Type 0 where
 
 abbrev pub tagOf : ℕ → Tag
 tagOf t =
-    cond (eqb t 254) (field newSubfileType)
-    (cond (eqb t 256) (field imageWidth)
-    (cond (eqb t 257) (field imageLength)
-    (cond (eqb t 258) (field bitsPerSample)
-    (cond (eqb t 259) (field compression)
+    cond (eqb t (tagNumber newSubfileType)) (field newSubfileType)
+    (cond (eqb t (tagNumber imageWidth)) (field imageWidth)
+    (cond (eqb t (tagNumber imageLength)) (field imageLength)
+    (cond (eqb t (tagNumber bitsPerSample)) (field bitsPerSample)
+    (cond (eqb t (tagNumber compression)) (field compression)
     (cond (eqb t 273) stripOffsets
-    (cond (eqb t 277) (field samplesPerPixel)
+    (cond (eqb t (tagNumber samplesPerPixel)) (field samplesPerPixel)
     (cond (eqb t 279) stripByteCounts
-    (cond (eqb t 284) (field planarConfiguration)
-    (cond (eqb t 339) (field sampleFormat)
+    (cond (eqb t (tagNumber planarConfiguration)) (field planarConfiguration)
+    (cond (eqb t (tagNumber sampleFormat)) (field sampleFormat)
     (cond (eqb t 34412) czLsmInfo other))))))))))
 
--- "NewSubfileType with bit 0 or 2 set marks a reduced page"
-abbrev pub isReduced : ℕ → Bool
-isReduced v = eqb (v % 2) 1 || eqb (v / 4 % 2) 1
-
--- The directory with a scalar's value. PlanarConfiguration counts only as being 2 or not.
+-- The directory with what an entry states: "of a repeated tag the last wins".
 abbrev pub put : Field → ℕ → Directory → Directory
-put newSubfileType v d = record { reduced = isReduced v; width = d .width; height = d .height; samples = d .samples; bits = d .bits; format = d .format; planar = d .planar; compression = d .compression; offsets = d .offsets; counts = d .counts; cz = d .cz }
-put imageWidth v d = record { reduced = d .reduced; width = v; height = d .height; samples = d .samples; bits = d .bits; format = d .format; planar = d .planar; compression = d .compression; offsets = d .offsets; counts = d .counts; cz = d .cz }
-put imageLength v d = record { reduced = d .reduced; width = d .width; height = v; samples = d .samples; bits = d .bits; format = d .format; planar = d .planar; compression = d .compression; offsets = d .offsets; counts = d .counts; cz = d .cz }
-put bitsPerSample v d = record { reduced = d .reduced; width = d .width; height = d .height; samples = d .samples; bits = v; format = d .format; planar = d .planar; compression = d .compression; offsets = d .offsets; counts = d .counts; cz = d .cz }
-put compression v d = record { reduced = d .reduced; width = d .width; height = d .height; samples = d .samples; bits = d .bits; format = d .format; planar = d .planar; compression = v; offsets = d .offsets; counts = d .counts; cz = d .cz }
-put samplesPerPixel v d = record { reduced = d .reduced; width = d .width; height = d .height; samples = v; bits = d .bits; format = d .format; planar = d .planar; compression = d .compression; offsets = d .offsets; counts = d .counts; cz = d .cz }
-put planarConfiguration v d = record { reduced = d .reduced; width = d .width; height = d .height; samples = d .samples; bits = d .bits; format = d .format; planar = eqb v 2; compression = d .compression; offsets = d .offsets; counts = d .counts; cz = d .cz }
-put sampleFormat v d = record { reduced = d .reduced; width = d .width; height = d .height; samples = d .samples; bits = d .bits; format = v; planar = d .planar; compression = d .compression; offsets = d .offsets; counts = d .counts; cz = d .cz }
+put t v d =
+    record { scalars = λ s. cond (eqb (tagNumber s) (tagNumber t)) v (d .scalars s); offsets = d .offsets; counts = d .counts; cz = d .cz }
+
+abbrev pub putOffsets : List ℕ → Directory → Directory
+putOffsets a d = record { scalars = d .scalars; offsets = a; counts = d .counts; cz = d .cz }
+
+abbrev pub putCounts : List ℕ → Directory → Directory
+putCounts a d = record { scalars = d .scalars; offsets = d .offsets; counts = a; cz = d .cz }
+
+abbrev pub putCz : ℕ → ℕ → Directory → Directory
+putCz offset declared d = record { scalars = d .scalars; offsets = d .offsets; counts = d .counts; cz = some (offset, declared) }
 
 -- "SamplesPerPixel, BitsPerSample, SampleFormat or Compression above 65,535, is Decode"
 abbrev pub isShort : Field → Bool
@@ -161,16 +173,7 @@ isShort sampleFormat = true
 abbrev pub putField : Field → ℕ → Directory → Result Directory
 putField t v d = bind (need decode (not (isShort t) || leb v 65535)) (λ _. accepted (put t v d))
 
-abbrev pub putOffsets : List ℕ → Directory → Directory
-putOffsets a d = record { reduced = d .reduced; width = d .width; height = d .height; samples = d .samples; bits = d .bits; format = d .format; planar = d .planar; compression = d .compression; offsets = a; counts = d .counts; cz = d .cz }
-
-abbrev pub putCounts : List ℕ → Directory → Directory
-putCounts a d = record { reduced = d .reduced; width = d .width; height = d .height; samples = d .samples; bits = d .bits; format = d .format; planar = d .planar; compression = d .compression; offsets = d .offsets; counts = a; cz = d .cz }
-
-abbrev pub putCz : ℕ → ℕ → Directory → Directory
-putCz offset declared d = record { reduced = d .reduced; width = d .width; height = d .height; samples = d .samples; bits = d .bits; format = d .format; planar = d .planar; compression = d .compression; offsets = d .offsets; counts = d .counts; cz = some (offset, declared) }
-
--- An entry: its tag, type and count, and the place of its value or offset. "Of a repeated tag the last wins."
+-- An entry: its tag, type and count, and the place of its value or offset.
 abbrev pub entryBy : Tag → Order → List ℕ → ℕ → ℕ → ℕ → Directory → Result Directory
 entryBy (field t) o f type count place d = bind (scalar o f type count place) (λ v. putField t v d)
 entryBy stripOffsets o f type count place d = bind (array o f type count place) (λ a. accepted (putOffsets a d))

@@ -2,20 +2,19 @@
 -- first full page already. Assumes nothing.
 use Prim.Native.Nat.{ℕ, zero, suc, _+_, _≤_}
 use native.Mathlib.Omega.{arith}
-use mathlib.Core.Bool.{Bool, true, false, cond, Bool·beq}
+use mathlib.Core.Bool.{Bool, true, false, cond}
 use mathlib.Core.Logic.{_⊎_, ⊎-elim, inl, inr}
 use mathlib.Core.Option.{Option, none, some}
 use mathlib.Core.Path.{_≡_, refl, _∙_}
 use mathlib.Core.List.{List}
 use lib.Dec.{eqb}
 use lib.ListN.{length}
-use borrow.Author.Tests.{eq-eqb}
 use Rattle.lsm_format.specs.Answer.{accepted, refused, bind, need, parse, decode}
 use Rattle.lsm_format.specs.Numbers.{Order}
-use Rattle.lsm_format.specs.Directory.{Directory}
+use Rattle.lsm_format.specs.Directory.{Directory, reduced}
 use Rattle.lsm_format.specs.Open.{agreesWith, agrees, Walk, earlier, fullPage, joined, chain}
 use Rattle.lsm_format.proofs.Accepting.{not-both}
-use Rattle.lsm_format.proofs.Open.{stays, chain-full}
+use Rattle.lsm_format.proofs.Open.{agrees-self, stays, chain-full}
 
 -- ---- a directory that agreed once agrees again
 
@@ -33,19 +32,10 @@ keeps-before : (first g later : Option Directory) → Keeps (earlier first later
 keeps-before none g later k = tt
 keeps-before (some p) g later k = k
 
-same-flag : (b : Bool) → Bool·beq b b ≡ true
-same-flag true = refl
-same-flag false = refl
-
-self-agrees : (d : Directory) → agreesWith (some d) d ≡ accepted tt
-unfolding bind
-self-agrees d =
-    rw (eq-eqb (d .width) (d .width) refl, eq-eqb (d .height) (d .height) refl, eq-eqb (d .samples) (d .samples) refl, eq-eqb (d .bits) (d .bits) refl, eq-eqb (d .format) (d .format) refl, eq-eqb (d .compression) (d .compression) refl, same-flag (d .planar), eq-eqb (length (d .offsets)) (length (d .offsets)) refl)
-
 again-by : (b : Bool) (first g : Option Directory) (d : Directory) → agreesWith (cond b none first) d ≡ accepted tt →
     Keeps (earlier first (cond b none (some d))) g → (agreesWith (cond b none g) d ≡ accepted tt) × (earlier g (cond b none (some d)) ≡ g)
 again-by true first g d a k = (refl, stays g)
-again-by false none g d a k = (rw k (self-agrees d), rw k)
+again-by false none g d a k = (rw k (agrees-self d), rw k)
 again-by false (some p) g d a k = (rw k a, rw k)
 
 agrees-again : (first g : Option Directory) (d : Directory) → agrees first d ≡ accepted tt → Keeps (earlier first (fullPage d)) g →
@@ -53,9 +43,9 @@ agrees-again : (first g : Option Directory) (d : Directory) → agrees first d �
 unfolding agrees bind
 agrees-again first g d a k = by (eqb (length (d .offsets)) (length (d .counts))) a
   where
-    by : (b : Bool) → bind (need decode b) (λ _. agreesWith (cond (d .reduced) none first) d) ≡ accepted tt →
-        (bind (need decode b) (λ _. agreesWith (cond (d .reduced) none g) d) ≡ accepted tt) × (earlier g (fullPage d) ≡ g)
-    by true q = again-by (d .reduced) first g d q k
+    by : (b : Bool) → bind (need decode b) (λ _. agreesWith (cond (reduced d) none first) d) ≡ accepted tt →
+        (bind (need decode b) (λ _. agreesWith (cond (reduced d) none g) d) ≡ accepted tt) × (earlier g (fullPage d) ≡ g)
+    by true q = again-by (reduced d) first g d q k
     by false q = absurd (not-both decode tt q)
 
 -- ---- from a mark to a place

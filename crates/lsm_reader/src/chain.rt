@@ -8,6 +8,7 @@ use lsm_directory::EntryAnswer;
 use lsm_directory::First;
 use lsm_directory::agrees;
 use lsm_directory::directory_ends;
+use lsm_directory::is_reduced;
 use lsm_directory::plain_directory;
 use lsm_directory::put_value;
 use lsm_directory::read_entry;
@@ -74,7 +75,7 @@ fn join(w: Walk, d: Directory) -> Walk
     let found = d.cz;
     let cz = first_entry(kept, found);
     let first = w.first;
-    if d.reduced {
+    if is_reduced(d.new_subfile_type) {
         return Walk {
             visited: w.visited + 1,
             pages: w.pages,
@@ -151,7 +152,7 @@ fn lay_page(buf: &[u8], d: Directory, e: Endian, used: usize, table: &mut [usize
     requires { ⌜ (used ≤ length (now table)) × (d .offsets .count ≡ d .counts .count) ⌝ }
     ensures { λ r. ⌜ LaidPage (tableWords (pagesOf (directoryOf (orderOf e) (now (buf .entry)) d))) used (now (table .entry)) (now (table .exit)) r ⌝ }
 {
-    if d.reduced {
+    if is_reduced(d.new_subfile_type) {
         return used;
     }
     let offsets = d.offsets;
