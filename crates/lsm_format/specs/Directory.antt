@@ -23,15 +23,26 @@ typeSize t =
     (cond (among t (4 ∷ 9 ∷ 11 ∷ [])) 4
     (cond (among t (5 ∷ 10 ∷ 12 ∷ [])) 8 0)))
 
--- The bytes of a type that is read as a number: "a value of a type other than 1, 3, 4, 6 to 9 or 11 [..] is Decode"; "Types 6, 8, 9
--- and 11 are read as unsigned bits".
+-- The bytes of a type that is read as a number: "a value of a type other than 1, 3, 4, 6 to 9 or 11 [..] is Decode".
 unfoldable pub integerSize : ℕ → Option ℕ
-integerSize t =
-    cond (among t (1 ∷ 6 ∷ 7 ∷ [])) (some 1)
-    (cond (among t (3 ∷ 8 ∷ [])) (some 2)
-    (cond (among t (4 ∷ 9 ∷ 11 ∷ [])) (some 4) none))
+integerSize t = cond (among t (1 ∷ 3 ∷ 4 ∷ 6 ∷ 7 ∷ 8 ∷ 9 ∷ 11 ∷ [])) (some (typeSize t)) none
 
 -- ---- values
+
+-- One value of a type at a place: "Types 6, 8, 9 and 11 are read as unsigned bits".
+unfoldable pub valueAt : ℕ → Order → List ℕ → ℕ → Result ℕ
+valueAt type o f p = bind (given decode (integerSize type)) (λ size. numberAt size o f p)
+
+-- So many values of a type, one after another from a place on.
+unfoldable pub valuesAt : ℕ → ℕ → Order → List ℕ → ℕ → Result (List ℕ)
+valuesAt zero type o f p = accepted []
+valuesAt (suc n) type o f p = bind (valueAt type o f p) (λ v. bind (valuesAt n type o f (p + typeSize type)) (λ vs. accepted (v ∷ vs)))
+
+-- The values of an entry: where the first stands, their type, and how many they are.
+pub record Values : Type 0 where
+  pub place : ℕ
+  pub type : ℕ
+  pub count : ℕ
 
 -- TIFF 6.0, "IFD Entry", bytes 8-11: the values themselves if they fit into 4 bytes, otherwise their offset.
 abbrev pub placeBy : Bool → Order → List ℕ → ℕ → Result ℕ
@@ -41,38 +52,29 @@ placeBy false o f place = u32At o f place
 unfoldable pub valuePlace : Order → List ℕ → ℕ → ℕ → ℕ → Result ℕ
 valuePlace o f size count place = placeBy (leb (size * count) 4) o f place
 
--- Where the first value of an entry stands, and how many bytes it has: "a value of [another] type [..], a scalar with count 0 [..] is
--- Decode". The type and the count come before any out-of-line read.
-unfoldable pub scalarPlace : Order → List ℕ → ℕ → ℕ → ℕ → Result (ℕ × ℕ)
-scalarPlace o f type count place =
-    bind (need decode (not (eqb (typeSize type) 0) && not (eqb count 0))) (λ _.
-    bind (valuePlace o f (typeSize type) count place) (λ p.
-    bind (given decode (integerSize type)) (λ size. accepted (p, size))))
+-- A type outside 1 to 12 is Decode, before any out-of-line read.
+unfoldable pub entryValues : Order → List ℕ → ℕ → ℕ → ℕ → Result Values
+entryValues o f type count place =
+    bind (need decode (not (eqb (typeSize type) 0))) (λ _.
+    bind (valuePlace o f (typeSize type) count place) (λ p. accepted (record { place = p; type = type; count = count })))
+
+-- "a scalar with count 0 [..] is Decode": no value is read out of line then.
+unfoldable pub scalarValues : Order → List ℕ → ℕ → ℕ → ℕ → Result Values
+scalarValues o f type count place =
+    bind (entryValues o f type count place) (λ v. bind (need decode (not (eqb (v .count) 0))) (λ _. accepted v))
 
 -- The first value: "of several BitsPerSample values only the first counts".
 unfoldable pub scalar : Order → List ℕ → ℕ → ℕ → ℕ → Result ℕ
-scalar o f type count place = bind (scalarPlace o f type count place) (λ v. numberAt (v .1) o f (v .0))
+scalar o f type count place = bind (scalarValues o f type count place) (λ v. valueAt (v .type) o f (v .place))
 
--- Where the values of a strip array stand, and how many bytes each has: "a strip array of a type outside 1 to 12 [..] is Decode";
--- "100,000 strips pass, 100,001 are Decode"; "a strip array with count 0 is empty", whatever its type.
-abbrev pub elementSize : ℕ → ℕ → Result ℕ
-elementSize zero type = accepted 0
-elementSize (suc n) type = given decode (integerSize type)
+-- "100,000 strips pass, 100,001 are Decode"
+unfoldable pub arrayValues : Order → List ℕ → ℕ → ℕ → ℕ → Result Values
+arrayValues o f type count place =
+    bind (entryValues o f type count place) (λ v. bind (need decode (leb (v .count) 100000)) (λ _. accepted v))
 
-unfoldable pub arrayPlace : Order → List ℕ → ℕ → ℕ → ℕ → Result (ℕ × ℕ)
-arrayPlace o f type count place =
-    bind (need decode (not (eqb (typeSize type) 0))) (λ _.
-    bind (valuePlace o f (typeSize type) count place) (λ p.
-    bind (need decode (leb count 100000)) (λ _. bind (elementSize count type) (λ size. accepted (p, size)))))
-
--- So many numbers of so many bytes, one after another from a place on.
-unfoldable pub numbers : ℕ → ℕ → Order → List ℕ → ℕ → Result (List ℕ)
-numbers zero size o f p = accepted []
-numbers (suc n) size o f p = bind (numberAt size o f p) (λ v. bind (numbers n size o f (p + size)) (λ vs. accepted (v ∷ vs)))
-
--- The values of a strip array.
+-- The values of a strip array: "a strip array with count 0 is empty", whatever its type.
 unfoldable pub array : Order → List ℕ → ℕ → ℕ → ℕ → Result (List ℕ)
-array o f type count place = bind (arrayPlace o f type count place) (λ v. numbers count (v .1) o f (v .0))
+array o f type count place = bind (arrayValues o f type count place) (λ v. valuesAt (v .count) (v .type) o f (v .place))
 
 -- ---- a directory
 
@@ -208,13 +210,17 @@ directory o f place = bind (ends o f place) (λ e. bind (entries (e .0) o f (pla
 
 -- ---- what is read
 
+-- The bytes of so many values of a type.
+abbrev pub valueRanges : ℕ → ℕ → List ℕ → ℕ → Ranges
+valueRanges n type f p = over (given decode (integerSize type)) (λ size. inFile f p (size * n))
+
 -- "out of line, the first value of each entry of a scalar tag the reader uses"
 abbrev pub scalarRanges : Order → List ℕ → ℕ → ℕ → ℕ → Ranges
-scalarRanges o f type count place = over (scalarPlace o f type count place) (λ v. inFile f (v .0) (v .1))
+scalarRanges o f type count place = over (scalarValues o f type count place) (λ v. valueRanges 1 (v .type) f (v .place))
 
 -- "and all values of strip arrays"
 abbrev pub arrayRanges : Order → List ℕ → ℕ → ℕ → ℕ → Ranges
-arrayRanges o f type count place = over (arrayPlace o f type count place) (λ v. inFile f (v .0) (v .1 * count))
+arrayRanges o f type count place = over (arrayValues o f type count place) (λ v. valueRanges (v .count) (v .type) f (v .place))
 
 abbrev pub entryByRanges : Tag → Order → List ℕ → ℕ → ℕ → ℕ → Ranges
 entryByRanges (field t) o f type count place = scalarRanges o f type count place
