@@ -56,7 +56,7 @@ pub enum SampleAnswer {
 }
 
 // The kind of sample that a format and its bits make.
-pub fn map_dtype(sample_format: u16, bits: u16) -> SampleAnswer
+pub fn map_dtype(sample_format: u32, bits: u32) -> SampleAnswer
     ensures { λ r. ⌜ sampleOf r ≡ sampleKind «sample_format» bits ⌝ }
 {
     if sample_format == 1 {
@@ -107,7 +107,7 @@ fn is_interleaved(channels: usize, planar: bool) -> bool
 fn check_agreement(page: Directory, info: CzInfo) -> Check
     ensures { λ r. ⌜ ((o : Order) (f : List ℕ) → checkOf r ≡ agreement (directoryOf o f page) (infoOf info)) ⌝ }
 {
-    let channels = at_least_one(page.samples as u32);
+    let channels = at_least_one(page.samples);
     let offsets = page.offsets;
     if info.dim_x != page.width {
         return Check::Refused(Refusal::Decode);
@@ -121,7 +121,7 @@ fn check_agreement(page: Directory, info: CzInfo) -> Check
     if 1 < info.dim_time {
         return Check::Refused(Refusal::Unsupported);
     }
-    if is_interleaved(channels, page.planar) {
+    if is_interleaved(channels, page.planar_configuration == 2) {
         return Check::Refused(Refusal::Unsupported);
     }
     if offsets.count == 0 {
@@ -174,7 +174,7 @@ pub fn describe(
         LayoutAnswer::Layout(l) => l,
         LayoutAnswer::Refused(r) => return DescriptionAnswer::Refused(r),
     };
-    let channels = at_least_one(page.samples as u32);
+    let channels = at_least_one(page.samples);
     let offsets = page.offsets;
     let dims = Dims5 {
         t: 1,

@@ -16,7 +16,7 @@ use Rattle.lsm_directory.specs.declared.Field.the-variants.{NewSubfileTy
 use Rattle.lsm_directory.specs.declared.Tag.{Tag}
 use Rattle.lsm_directory.specs.declared.Tag.the-variants.{Field as OfField, StripOffsets, StripByteCounts, CzLsmInfo, Other}
 use Rattle.lsm_directory.specs.declared.Value.{Value}
-use Rattle.lsm_directory.specs.declared.Value.the-variants.{Reduced, Width, Height, Bits, Compression as CompressionValue, Samples, Planar, SampleFormat as FormatValue, Offsets, Counts, CzBlock, Nothing}
+use Rattle.lsm_directory.specs.declared.Value.the-variants.{Scalar, Offsets, Counts, CzBlock, Nothing}
 use Rattle.lsm_directory.specs.declared.EntryAnswer.{EntryAnswer}
 use Rattle.lsm_directory.specs.declared.EntryAnswer.the-variants.{Value as Stated, Refused}
 use Rattle.lsm_directory.specs.declared.Ends.{Ends}
@@ -28,21 +28,19 @@ abbrev pub czOf : CzEntry → Option (ℕ × ℕ)
 czOf Absent = none
 czOf (Block offset declared) = some (offset, declared)
 
+abbrev pub scalarsOf : Directory → Rule.Field → ℕ
+scalarsOf d newSubfileType = d .«new_subfile_type»
+scalarsOf d imageWidth = d .width
+scalarsOf d imageLength = d .height
+scalarsOf d bitsPerSample = d .bits
+scalarsOf d compression = d .compression
+scalarsOf d samplesPerPixel = d .samples
+scalarsOf d planarConfiguration = d .«planar_configuration»
+scalarsOf d sampleFormat = d .«sample_format»
+
 abbrev pub directoryOf : Order → List ℕ → Directory → Rule.Directory
 directoryOf o f d =
-    record {
-      reduced = d .reduced;
-      width = d .width;
-      height = d .height;
-      samples = d .samples;
-      bits = d .bits;
-      format = d .«sample_format»;
-      planar = d .planar;
-      compression = d .compression;
-      offsets = valuesOf o f (d .offsets);
-      counts = valuesOf o f (d .counts);
-      cz = czOf (d .cz);
-    }
+    record { scalars = scalarsOf d; offsets = valuesOf o f (d .offsets); counts = valuesOf o f (d .counts); cz = czOf (d .cz) }
 
 -- ---- tags
 
@@ -67,14 +65,7 @@ tagMeant Other = other
 
 -- a directory with what an entry states
 abbrev pub putStated : Order → List ℕ → Value → Rule.Directory → Rule.Directory
-putStated o f (Reduced b) d = record { reduced = b; width = d .width; height = d .height; samples = d .samples; bits = d .bits; format = d .format; planar = d .planar; compression = d .compression; offsets = d .offsets; counts = d .counts; cz = d .cz }
-putStated o f (Width n) d = put imageWidth n d
-putStated o f (Height n) d = put imageLength n d
-putStated o f (Bits n) d = put bitsPerSample n d
-putStated o f (CompressionValue n) d = put compression n d
-putStated o f (Samples n) d = put samplesPerPixel n d
-putStated o f (Planar b) d = record { reduced = d .reduced; width = d .width; height = d .height; samples = d .samples; bits = d .bits; format = d .format; planar = b; compression = d .compression; offsets = d .offsets; counts = d .counts; cz = d .cz }
-putStated o f (FormatValue n) d = put sampleFormat n d
+putStated o f (Scalar t n) d = put (fieldMeant t) n d
 putStated o f (Offsets a) d = putOffsets (valuesOf o f a) d
 putStated o f (Counts a) d = putCounts (valuesOf o f a) d
 putStated o f (CzBlock offset declared) d = putCz offset declared d

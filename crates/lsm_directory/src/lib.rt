@@ -23,7 +23,7 @@ ghost use Rattle.lsm_format.specs.Numbers.{Order};
 ghost use Rattle.lsm_format.specs.Directory as Rule;
 ghost use Rattle.lsm_format.specs.Directory.{plain, tagOf, isReduced, isShort, put, putCz, putField, czLsmInfo, entryBy, entry};
 ghost use Rattle.lsm_format.specs.Open.{sameGeometry};
-ghost use Rattle.lsm_directory.specs.Pages.{directoryEnds, pageAgrees};
+ghost use Rattle.lsm_format.specs.Open as Open;
 ghost use Rattle.lsm_directory.specs.Code.{fieldMeant, tagMeant, directoryOf, putStated, stepOf, endsOf, SmallEnds, firstMeant};
 
 // The CZ-LSM-Info entry: where its block stands and how many bytes it declares.
@@ -34,17 +34,17 @@ pub enum CzEntry {
 
 // What a directory states.
 pub struct Directory {
+    pub new_subfile_type: u32,
     pub width: u32,
     pub height: u32,
-    pub samples: u16,
-    pub bits: u16,
-    pub sample_format: u16,
-    pub compression: u16,
+    pub bits: u32,
+    pub compression: u32,
+    pub samples: u32,
+    pub planar_configuration: u32,
+    pub sample_format: u32,
     pub offsets: StripArray,
     pub counts: StripArray,
     pub cz: CzEntry,
-    pub reduced: bool,
-    pub planar: bool,
 }
 
 // What a directory states that states nothing.
@@ -57,17 +57,17 @@ pub fn plain_directory() -> Directory
         width: Width::One,
     };
     Directory {
+        new_subfile_type: 0,
         width: 0,
         height: 0,
-        samples: 1,
         bits: 1,
-        sample_format: 1,
         compression: 1,
+        samples: 1,
+        planar_configuration: 1,
+        sample_format: 1,
         offsets: none,
         counts: none,
         cz: CzEntry::Absent,
-        reduced: false,
-        planar: false,
     }
 }
 
@@ -112,14 +112,7 @@ pub fn tag_of(tag: u16) -> Tag
 
 // What an entry states.
 pub enum Value {
-    Reduced(bool),
-    Width(u32),
-    Height(u32),
-    Bits(u16),
-    Compression(u16),
-    Samples(u16),
-    Planar(bool),
-    SampleFormat(u16),
+    Scalar(Field, u32),
     Offsets(StripArray),
     Counts(StripArray),
     CzBlock(u32, usize),
@@ -133,7 +126,7 @@ pub enum EntryAnswer {
 }
 
 // Bit 0 marks a reduced page and bit 2 a mask: neither is a picture.
-fn is_reduced(v: u32) -> bool
+pub fn is_reduced(v: u32) -> bool
     ensures { λ r. ⌜ r ≡ isReduced v ⌝ }
 {
     if v % 2 == 1 {
@@ -149,18 +142,36 @@ fn put_cz(d: Directory, offset: u32, declared: usize) -> Directory
     let offsets = d.offsets;
     let counts = d.counts;
     Directory {
+        new_subfile_type: d.new_subfile_type,
         width: d.width,
         height: d.height,
-        samples: d.samples,
         bits: d.bits,
-        sample_format: d.sample_format,
         compression: d.compression,
+        samples: d.samples,
+        planar_configuration: d.planar_configuration,
+        sample_format: d.sample_format,
         offsets,
         counts,
         cz: CzEntry::Block(offset, declared),
-        reduced: d.reduced,
-        planar: d.planar,
     }
+}
+
+// The directory with a scalar's value.
+fn put_scalar(d: Directory, t: Field, n: u32) -> Directory
+    ensures { λ r. ⌜ ((o : Order) (f : List ℕ) → directoryOf o f r ≡ put (fieldMeant t) n (directoryOf o f d)) ⌝ }
+{
+    let mut next = d;
+    match t {
+        Field::NewSubfileType => next.new_subfile_type = n,
+        Field::ImageWidth => next.width = n,
+        Field::ImageLength => next.height = n,
+        Field::BitsPerSample => next.bits = n,
+        Field::Compression => next.compression = n,
+        Field::SamplesPerPixel => next.samples = n,
+        Field::PlanarConfiguration => next.planar_configuration = n,
+        Field::SampleFormat => next.sample_format = n,
+    }
+    next
 }
 
 // The directory with what an entry states. Of a repeated tag the last wins.
@@ -169,14 +180,7 @@ pub fn put_value(d: Directory, v: Value) -> Directory
 {
     let mut next = d;
     match v {
-        Value::Reduced(b) => next.reduced = b,
-        Value::Width(n) => next.width = n,
-        Value::Height(n) => next.height = n,
-        Value::Bits(n) => next.bits = n,
-        Value::Compression(n) => next.compression = n,
-        Value::Samples(n) => next.samples = n,
-        Value::Planar(b) => next.planar = b,
-        Value::SampleFormat(n) => next.sample_format = n,
+        Value::Scalar(t, n) => return put_scalar(d, t, n),
         Value::Offsets(a) => next.offsets = a,
         Value::Counts(a) => next.counts = a,
         Value::CzBlock(offset, declared) => return put_cz(d, offset, declared),
@@ -201,23 +205,6 @@ fn is_short_field(t: Field) -> bool
     }
 }
 
-// What a scalar that fits its field states.
-fn scalar_value(t: Field, v: u32) -> Value
-    requires { ⌜ (isShort (fieldMeant t) ≡ true → v ≤ 65535) ⌝ }
-    ensures { λ r. ⌜ ((o : Order) (f : List ℕ) (d : Rule.Directory) → putStated o f r d ≡ put (fieldMeant t) v d) ⌝ }
-{
-    match t {
-        Field::NewSubfileType => Value::Reduced(is_reduced(v)),
-        Field::ImageWidth => Value::Width(v),
-        Field::ImageLength => Value::Height(v),
-        Field::BitsPerSample => Value::Bits(v as u16),
-        Field::Compression => Value::Compression(v as u16),
-        Field::SamplesPerPixel => Value::Samples(v as u16),
-        Field::PlanarConfiguration => Value::Planar(v == 2),
-        Field::SampleFormat => Value::SampleFormat(v as u16),
-    }
-}
-
 // What a scalar states, where it has no more bits than its field.
 fn field_value(t: Field, v: u32) -> EntryAnswer
     ensures { λ r. ⌜ ((o : Order) (f : List ℕ) (d : Rule.Directory) → stepOf o f r d ≡ putField (fieldMeant t) v d) ⌝ }
@@ -227,7 +214,7 @@ fn field_value(t: Field, v: u32) -> EntryAnswer
             return EntryAnswer::Refused(Refusal::Decode);
         }
     }
-    EntryAnswer::Value(scalar_value(t, v))
+    EntryAnswer::Value(Value::Scalar(t, v))
 }
 
 // The CZ entry: its values never fit into four bytes, so it holds an offset.
@@ -292,7 +279,7 @@ pub enum Ends {
 
 // A directory's count of entries and its next pointer, which comes before any entry.
 pub fn directory_ends(buf: &[u8], place: usize, e: Endian) -> Ends
-    ensures ends { λ r. ⌜ endsOf r ≡ directoryEnds (orderOf e) (now (buf .entry)) place ⌝ }
+    ensures ends { λ r. ⌜ endsOf r ≡ Rule.ends (orderOf e) (now (buf .entry)) place ⌝ }
     ensures small { λ r. ⌜ SmallEnds r ⌝ }
 {
     let U16::Value(n) = read_u16(buf, place, e) else {
@@ -332,7 +319,7 @@ fn same_geometry(a: Directory, b: Directory) -> bool
     if a.compression != b.compression {
         return false;
     }
-    a.planar == b.planar
+    (a.planar_configuration == 2) == (b.planar_configuration == 2)
 }
 
 // What a full page agrees on with the first: its geometry, then its strip count.
@@ -351,14 +338,14 @@ fn page_check(geometry: bool, strips: bool) -> Check
 // Whether a directory whose entries are all read can stand where it does: it has as many strip lengths as offsets, and a full page
 // agrees with the first.
 pub fn agrees(first: First, d: Directory) -> Check
-    ensures { λ r. ⌜ ((o : Order) (f : List ℕ) → checkOf r ≡ pageAgrees (firstMeant o f first) (directoryOf o f d)) ⌝ }
+    ensures { λ r. ⌜ ((o : Order) (f : List ℕ) → checkOf r ≡ Open.agrees (firstMeant o f first) (directoryOf o f d)) ⌝ }
 {
     let offsets = d.offsets;
     let counts = d.counts;
     if offsets.count != counts.count {
         return Check::Refused(Refusal::Decode);
     }
-    if d.reduced {
+    if is_reduced(d.new_subfile_type) {
         return Check::Accepted;
     }
     let First::Page(page) = first else {

@@ -4,15 +4,15 @@ use native.Mathlib.Nat.{mul-suc, mul-zero}
 use native.Mathlib.Omega.{arith}
 use mathlib.Core.Bool.{Bool, true, false, not, _&&_, _||_, cond}
 use mathlib.Core.Logic.{_⊎_, inl, inr}
-use mathlib.Core.Option.{none, some}
-use mathlib.Core.Path.{_≡_, refl, sym}
+use mathlib.Core.Option.{Option, none, some}
+use mathlib.Core.Path.{_≡_, refl, sym, ap, fun-ext, _∙_}
 use mathlib.Core.List.{List, [], _∷_}
 use lib.Dec.{leb, T, leb→le, lit≤}
 use lib.ListN.{length}
 use borrow.Author.Tests.{eq-eqb, ne-eqb, leb-true, leb-false, le-leb, lt-leb, lt-ltb, le-ltb}
 use Rattle.lsm_format.specs.Answer.{Result, accepted, refused, bind, need, parse, decode}
 use Rattle.lsm_format.specs.Numbers.{Order, numberAt, u16At, u32At}
-use Rattle.lsm_format.specs.Directory.{among, typeSize, integerSize, valuePlace, scalarPlace, scalar, arrayPlace, numbers, array, Directory, Field, isShort, put, putField, Tag, czLsmInfo, putCz, tagOf, entryBy, entry}
+use Rattle.lsm_format.specs.Directory.{among, typeSize, integerSize, valueAt, valuesAt, valuePlace, entryValues, scalarValues, scalar, arrayValues, array, Directory, Field, isShort, put, putField, Tag, czLsmInfo, putCz, tagOf, entryBy, entry}
 use Rattle.lsm_format.proofs.Numbers.{number-past, number-there}
 
 -- ---- types
@@ -35,7 +35,7 @@ pub type-above : (t : ℕ) → 12 < t → (typeSize t ≡ 0) × (integerSize t �
 unfolding typeSize integerSize
 type-above t h = (
   rw (among-above t 12 (1 ∷ 2 ∷ 6 ∷ 7 ∷ []) tt h, among-above t 12 (3 ∷ 8 ∷ []) tt h, among-above t 12 (4 ∷ 9 ∷ 11 ∷ []) tt h, among-above t 12 (5 ∷ 10 ∷ 12 ∷ []) tt h),
-  rw (among-above t 12 (1 ∷ 6 ∷ 7 ∷ []) tt h, among-above t 12 (3 ∷ 8 ∷ []) tt h, among-above t 12 (4 ∷ 9 ∷ 11 ∷ []) tt h),
+  rw (among-above t 12 (1 ∷ 3 ∷ 4 ∷ 6 ∷ 7 ∷ 8 ∷ 9 ∷ 11 ∷ []) tt h),
 )
 
 -- the codes from 1 to 7 that are none of 3, 4 and 5 have one byte
@@ -53,7 +53,7 @@ type-one (suc (suc (suc (suc (suc (suc (suc (suc n)))))))) l h x y z = absurd (o
 
 -- the codes that are read as no number: below 6 those that are none of 1, 3 and 4, from 8 on those that are none of 8, 9 and 11
 pub integer-low : (t : ℕ) → t < 6 → (t ≡ 1 → ⊥) → (t ≡ 3 → ⊥) → (t ≡ 4 → ⊥) → none ≡ integerSize t
-unfolding integerSize
+unfolding integerSize typeSize
 integer-low zero h x y z = refl
 integer-low (suc zero) h x y z = absurd (x refl)
 integer-low (suc (suc zero)) h x y z = refl
@@ -63,7 +63,7 @@ integer-low (suc (suc (suc (suc (suc zero))))) h x y z = refl
 integer-low (suc (suc (suc (suc (suc (suc n)))))) h x y z = absurd (omega arith)
 
 pub integer-high : (t : ℕ) → 8 ≤ t → (t ≡ 8 → ⊥) → (t ≡ 9 → ⊥) → (t ≡ 11 → ⊥) → none ≡ integerSize t
-unfolding integerSize
+unfolding integerSize typeSize
 integer-high zero h x y z = absurd (omega arith)
 integer-high (suc zero) h x y z = absurd (omega arith)
 integer-high (suc (suc zero)) h x y z = absurd (omega arith)
@@ -81,7 +81,7 @@ integer-high (suc (suc (suc (suc (suc (suc (suc (suc (suc (suc (suc (suc (suc n)
 
 -- 6 and 7 are read as one byte
 pub integer-one : (t : ℕ) → 6 ≤ t → t < 8 → some 1 ≡ integerSize t
-unfolding integerSize
+unfolding integerSize typeSize
 integer-one zero l h = absurd (omega arith)
 integer-one (suc zero) l h = absurd (omega arith)
 integer-one (suc (suc zero)) l h = absurd (omega arith)
@@ -102,22 +102,46 @@ pub place-by-offset : (o : Order) (f : List ℕ) (size count p : ℕ) (r : Resul
 unfolding valuePlace
 place-by-offset o f size count p r h e = rw (lt-leb (size * count) 4 h) (sym e)
 
--- ---- numbers one after another
+-- ---- values one after another
 
--- numbers that pass the end are 1, whatever the bytes before it
-past-by : (k : ℕ) (b : Bool) (size : ℕ) (o : Order) (e : List ℕ) (p : ℕ) → leb (p + size) (length e) ≡ b → length e < p + size * suc k →
-    numbers (suc k) size o e p ≡ refused parse
-unfolding numbers bind
-past-by zero true size o e p t h =
+-- a type that is read as a number has its own bytes
+pub integer-size : (t size : ℕ) → integerSize t ≡ some size → typeSize t ≡ size
+unfolding integerSize
+integer-size t size i = by (among t (1 ∷ 3 ∷ 4 ∷ 6 ∷ 7 ∷ 8 ∷ 9 ∷ 11 ∷ [])) i
+  where
+    by : (b : Bool) → cond b (some (typeSize t)) none ≡ some size → typeSize t ≡ size
+    by true e = ap (or 0) e
+      where
+        or : ℕ → Option ℕ → ℕ
+        or n none = n
+        or n (some m) = m
+    by false e = let z : _≡_ {A = ℕ} 0 1 = cc in absurd (omega arith)
+
+module _ (n type size : ℕ) (o : Order) (f : List ℕ) (p : ℕ) (i : integerSize type ≡ some size) where
+  pub values-next : (v : ℕ) → numberAt size o f p ≡ accepted v → valuesAt (suc n) type o f p ≡ bind (valuesAt n type o f (p + size)) (λ vs. accepted (v ∷ vs))
+  unfolding valuesAt valueAt bind
+  values-next v h = rw (i, h, integer-size type size i)
+
+  values-stop : (row : List ℕ) → numberAt size o f p ≡ refused row → valuesAt (suc n) type o f p ≡ refused row
+  unfolding valuesAt valueAt bind
+  values-stop row h = rw (i, h)
+
+-- values that pass the end are 1, whatever the bytes before it
+past-by : (k : ℕ) (b : Bool) (type size : ℕ) (o : Order) (e : List ℕ) (p : ℕ) → integerSize type ≡ some size → leb (p + size) (length e) ≡ b →
+    length e < p + size * suc k → valuesAt (suc k) type o e p ≡ refused parse
+unfolding bind
+past-by zero true type size o e p i t h =
     let there : p + size ≤ length e = leb-true _ _ t in
     absurd (omega (arith, mul-suc size 0, mul-zero size))
-past-by zero false size o e p t h = rw (number-past size o e p (leb-false _ _ t))
-past-by (suc k) true size o e p t h =
-    rw (number-there size o e p (leb-true _ _ t), past-by k (leb (p + size + size) (length e)) size o e (p + size) refl (omega (arith, mul-suc size (suc k))))
-past-by (suc k) false size o e p t h = rw (number-past size o e p (leb-false _ _ t))
+past-by zero false type size o e p i t h = values-stop zero type size o e p i parse (number-past size o e p (leb-false _ _ t))
+past-by (suc k) true type size o e p i t h =
+    values-next (suc k) type size o e p i _ (number-there size o e p (leb-true _ _ t))
+    ∙ rw (past-by k (leb (p + size + size) (length e)) type size o e (p + size) i refl (omega (arith, mul-suc size (suc k))))
+past-by (suc k) false type size o e p i t h = values-stop (suc k) type size o e p i parse (number-past size o e p (leb-false _ _ t))
 
-pub numbers-past : (k size : ℕ) (o : Order) (f : List ℕ) (p : ℕ) → length f < p + size * suc k → numbers (suc k) size o f p ≡ refused parse
-numbers-past k size o f p h = past-by k (leb (p + size) (length f)) size o f p refl h
+pub values-past : (k type size : ℕ) (o : Order) (f : List ℕ) (p : ℕ) → integerSize type ≡ some size → length f < p + size * suc k →
+    valuesAt (suc k) type o f p ≡ refused parse
+values-past k type size o f p i h = past-by k (leb (p + size) (length f)) type size o f p i refl h
 
 -- ---- sizes of types
 
@@ -137,35 +161,34 @@ type-size-small t =
 
 module _ (o : Order) (f : List ℕ) (type count place size : ℕ) (is : size ≡ typeSize type) where
   pub scalar-no-type : size ≡ 0 → refused decode ≡ scalar o f type count place
-  unfolding scalar scalarPlace bind
+  unfolding scalar scalarValues entryValues bind
   scalar-no-type z = rw (← is, eq-eqb size 0 z)
 
   pub array-no-type : size ≡ 0 → refused decode ≡ array o f type count place
-  unfolding array arrayPlace bind
+  unfolding array arrayValues entryValues bind
   array-no-type z = rw (← is, eq-eqb size 0 z)
 
   module _ (z : size ≡ 0 → ⊥) where
     pub scalar-no-count : count ≡ 0 → refused decode ≡ scalar o f type count place
-    unfolding scalar scalarPlace bind
-    scalar-no-count n = rw (← is, ne-eqb size 0 z, eq-eqb count 0 n)
+    unfolding scalar scalarValues entryValues bind
+    scalar-no-count n = rw (← is, ne-eqb size 0 z, ← place-in-entry o f size count place (rw n (omega (arith, mul-zero size))), eq-eqb count 0 n)
+
+    pub scalar-nowhere : (row : List ℕ) → valuePlace o f size count place ≡ refused row → refused row ≡ scalar o f type count place
+    unfolding scalar scalarValues entryValues bind
+    scalar-nowhere row e = rw (← is, ne-eqb size 0 z, e)
 
     pub array-nowhere : (row : List ℕ) → valuePlace o f size count place ≡ refused row → refused row ≡ array o f type count place
-    unfolding array arrayPlace bind
+    unfolding array arrayValues entryValues bind
     array-nowhere row e = rw (← is, ne-eqb size 0 z, e)
 
-    module _ (n : count ≡ 0 → ⊥) where
-      pub scalar-nowhere : (row : List ℕ) → valuePlace o f size count place ≡ refused row → refused row ≡ scalar o f type count place
-      unfolding scalar scalarPlace bind
-      scalar-nowhere row e = rw (← is, ne-eqb size 0 z, ne-eqb count 0 n, e)
+    module _ (n : count ≡ 0 → ⊥) (p : ℕ) (e : valuePlace o f size count place ≡ accepted p) where
+      pub scalar-no-number : integerSize type ≡ none → refused decode ≡ scalar o f type count place
+      unfolding scalar scalarValues entryValues valueAt bind
+      scalar-no-number i = rw (← is, ne-eqb size 0 z, e, ne-eqb count 0 n, i)
 
-      module _ (p : ℕ) (e : valuePlace o f size count place ≡ accepted p) where
-        pub scalar-no-number : integerSize type ≡ none → refused decode ≡ scalar o f type count place
-        unfolding scalar scalarPlace bind
-        scalar-no-number i = rw (← is, ne-eqb size 0 z, ne-eqb count 0 n, e, i)
-
-        pub scalar-is : (width : ℕ) → integerSize type ≡ some width → numberAt width o f p ≡ scalar o f type count place
-        unfolding scalar scalarPlace bind
-        scalar-is width i = rw (← is, ne-eqb size 0 z, ne-eqb count 0 n, e, i)
+      pub scalar-is : (width : ℕ) → integerSize type ≡ some width → numberAt width o f p ≡ scalar o f type count place
+      unfolding scalar scalarValues entryValues valueAt bind
+      scalar-is width i = rw (← is, ne-eqb size 0 z, e, ne-eqb count 0 n, i)
 
 -- ---- the CZ entry
 
@@ -205,6 +228,14 @@ module _ (o : Order) (f : List ℕ) (e : ℕ) (d : Directory) where
       unfolding entry bind
       entry-is count j t k = rw (h, i, j, k)
 
+-- ---- scalars
+
+-- directories with the same numbers, field by field
+pub same-scalars : (s u : Field → ℕ) (offsets counts : List ℕ) (cz : Option (ℕ × ℕ)) → ((t : Field) → s t ≡ u t) →
+    _≡_ {A = Directory} (record { scalars = s; offsets = offsets; counts = counts; cz = cz }) (record { scalars = u; offsets = offsets; counts = counts; cz = cz })
+same-scalars s u offsets counts cz h =
+    ap {B = Directory} (λ (x : Field → ℕ). record { scalars = x; offsets = offsets; counts = counts; cz = cz }) (fun-ext h)
+
 -- ---- the value of a field
 
 -- a field of 32 bits, or a value of 16, is put into the directory
@@ -216,7 +247,3 @@ field-put t v d (inr h) = by (isShort t)
     by : (b : Bool) → accepted (put t v d) ≡ bind (need decode (not b || leb v 65535)) (λ _. accepted (put t v d))
     by true = rw (le-leb v 65535 h)
     by false = refl
-
-pub field-small : (t : Field) (v : ℕ) → (isShort t ≡ false) ⊎ (v ≤ 65535) → isShort t ≡ true → v ≤ 65535
-field-small t v (inl h) e = let z : _≡_ {A = ℕ} 0 1 = cc in absurd (omega arith)
-field-small t v (inr h) e = h

@@ -17,7 +17,7 @@ use Rattle.lsm_format.specs.Sizes.{Kind}
 use Rattle.lsm_format.specs.Scenes.{Layout, layout, pages, pagesExpected}
 use Rattle.lsm_format.specs.CzInfo.{CzInfo}
 use Rattle.lsm_format.specs.Directory.{Directory}
-use Rattle.lsm_format.specs.Open.{Walk, Description, Opened, agreement, layoutFor, describe, describeWalk, tableWords, read}
+use Rattle.lsm_format.specs.Open.{Walk, Description, Opened, channels, agreement, layoutFor, describe, describeWalk, tableWords, read}
 use Rattle.lsm_format.specs.Picture.{stripsPerPage}
 use Rattle.lsm_format.proofs.Words.{word-some}
 use Rattle.lsm_format.proofs.Accepting.{Accepting, accepting-bind, accepting-then, accepting-need, accepting-given, both-hold}
@@ -46,7 +46,7 @@ shares-some n channels t =
     omega arith
 
 agreement-shares : (p : Directory) (i : CzInfo) →
-    Accepting (λ (u : Unit {0}). shares (length (p .offsets)) (max 1 (p .samples))) (agreement p i)
+    Accepting (λ (u : Unit {0}). shares (length (p .offsets)) (channels p)) (agreement p i)
 unfolding agreement shares
 agreement-shares p i =
     accepting-then _ _ _ (λ _. accepting-then _ _ _ (λ _. accepting-then _ _ _ (λ _. accepting-then _ _ _ (λ _. accepting-need decode _))))
@@ -70,8 +70,8 @@ unfolding describe Accepting
 describe-fits o k p n i table e =
     accepting-bind _ _ _ _ (agreement-shares p i) (λ _ s.
     accepting-bind _ _ _ _ (layout-pages i n) (λ l h.
-    let all = shared (length (p .offsets)) (max 1 (p .samples)) s in
-    record { deep = sym (h .0); strips = rw all (shares-some (length (p .offsets)) (max 1 (p .samples)) s); words = rw (all, ← h .1) e }))
+    let all = shared (length (p .offsets)) (channels p) s in
+    record { deep = sym (h .0); strips = rw all (shares-some (length (p .offsets)) (channels p) s); words = rw (all, ← h .1) e }))
 
 walk-fits : (o : Order) (f : List ℕ) (w : Walk) → Even (w .first) (w .pages) →
     Accepting (λ (d : Description). Fits d (tableWords (w .pages))) (describeWalk o f w)

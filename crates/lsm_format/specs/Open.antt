@@ -14,7 +14,7 @@ use Rattle.lsm_format.specs.Scenes.{Layout, layout, pagesExpected}
 use Rattle.lsm_format.specs.Lent.{lend, filled}
 use Rattle.lsm_format.specs.Calibration.{Calibration}
 use Rattle.lsm_format.specs.CzInfo.{CzInfo, czInfo, czRanges}
-use Rattle.lsm_format.specs.Directory.{Directory, directory, directoryRanges}
+use Rattle.lsm_format.specs.Directory.{Field, imageWidth, imageLength, bitsPerSample, compression, samplesPerPixel, sampleFormat, Directory, reduced, planar, directory, directoryRanges}
 
 -- ---- the header
 
@@ -34,6 +34,33 @@ tiffHeader f =
     bind (orderMark (getD f 0 0) (getD f 1 0)) (λ o.
     bind (u16At o f 2) (λ magic. bind (need parse (eqb magic 42)) (λ _. accepted o))))
 
+-- ---- what a directory is held to
+
+-- The scalars of the geometry, as stored.
+abbrev pub geometry : List Field
+geometry = imageWidth ∷ imageLength ∷ samplesPerPixel ∷ bitsPerSample ∷ sampleFormat ∷ compression ∷ []
+
+abbrev pub sameOn : List Field → Directory → Directory → Bool
+sameOn [] a b = true
+sameOn (t ∷ ts) a b = eqb (a .scalars t) (b .scalars t) && sameOn ts a b
+
+-- "agreement with the first full page (geometry 3 [..])": PlanarConfiguration only as being 2 or not.
+abbrev pub sameGeometry : Directory → Directory → Bool
+sameGeometry a b = sameOn geometry a b && Bool·beq (planar a) (planar b)
+
+-- "agreement with the first full page (geometry 3, then strip count 2)"; with no page, nothing is asked.
+abbrev pub agreesWith : Option Directory → Directory → Result (Unit {0})
+agreesWith none d = accepted tt
+agreesWith (some p) d =
+    bind (need unsupported (sameGeometry d p)) (λ _. need decode (eqb (length (d .offsets)) (length (p .offsets))))
+
+-- What a directory whose entries are all read is held to, a line each: "equal array lengths, agreement with the first full page". A
+-- reduced page and the first full one agree with nothing.
+unfoldable pub agrees : Option Directory → Directory → Result (Unit {0})
+agrees first d =
+    bind (need decode (eqb (length (d .offsets)) (length (d .counts)))) (λ _.
+    agreesWith (cond (reduced d) none first) d)
+
 -- ---- the chain of directories
 
 -- The two strip arrays of a full page.
@@ -51,44 +78,34 @@ pub record Walk : Type 0 where
 abbrev pub start : Walk
 start = record { visited = 0; first = none; pages = []; cz = none }
 
--- "agreement with the first full page (geometry 3 [..])": as stored, PlanarConfiguration only as being 2 or not
-abbrev pub sameGeometry : Directory → Directory → Bool
-sameGeometry a b =
-    eqb (a .width) (b .width)
-    && eqb (a .height) (b .height)
-    && eqb (a .samples) (b .samples)
-    && eqb (a .bits) (b .bits)
-    && eqb (a .format) (b .format)
-    && eqb (a .compression) (b .compression)
-    && Bool·beq (a .planar) (b .planar)
+-- Of two, the earlier: "the first directory that has one wins".
+abbrev pub earlier : {A : Type 0} → Option A → Option A → Option A
+earlier none later = later
+earlier (some a) later = some a
 
--- "the first directory that has one wins"
-abbrev pub firstOf : Option (ℕ × ℕ) → Option (ℕ × ℕ) → Option (ℕ × ℕ)
-firstOf none later = later
-firstOf (some cz) later = some cz
+-- The full page that a directory is, and its strip arrays: a reduced page "gives no picture".
+abbrev pub fullPage : Directory → Option Directory
+fullPage d = cond (reduced d) none (some d)
 
 abbrev pub arraysOf : Directory → Page
 arraysOf d = record { offsets = d .offsets; counts = d .counts }
 
--- A directory joins the walk. A reduced page "gives no picture but may supply the CZ entry"; a full page agrees with the first:
--- "geometry 3, then strip count 2".
-abbrev pub joinBy : Bool → Option Directory → Walk → Directory → Result Walk
-joinBy true first w d =
-    accepted (record { visited = w .visited + 1; first = w .first; pages = w .pages; cz = firstOf (w .cz) (d .cz) })
-joinBy false none w d =
-    accepted (record { visited = w .visited + 1; first = some d; pages = w .pages ++ arraysOf d ∷ []; cz = firstOf (w .cz) (d .cz) })
-joinBy false (some p) w d =
-    bind (need unsupported (sameGeometry d p)) (λ _.
-    bind (need decode (eqb (length (d .offsets)) (length (p .offsets)))) (λ _.
-    accepted (record {
-      visited = w .visited + 1;
-      first = some p;
-      pages = w .pages ++ arraysOf d ∷ [];
-      cz = firstOf (w .cz) (d .cz);
-    })))
+abbrev pub pagesOf : Directory → List Page
+pagesOf d = cond (reduced d) [] (arraysOf d ∷ [])
 
+-- The walk with one directory more. A reduced page "may supply the CZ entry".
+abbrev pub joined : Walk → Directory → Walk
+joined w d =
+    record {
+      visited = w .visited + 1;
+      first = earlier (w .first) (fullPage d);
+      pages = w .pages ++ pagesOf d;
+      cz = earlier (w .cz) (d .cz);
+    }
+
+-- A directory that agrees joins the walk.
 unfoldable pub join : Walk → Directory → Result Walk
-join w d = joinBy (d .reduced) (w .first) w d
+join w d = bind (agrees (w .first) d) (λ _. accepted (joined w d))
 
 -- The chain from a place on, with at most so many directories more. "The 1,000,001st visited directory is Parse; exactly 1,000,000
 -- pass."
@@ -121,15 +138,18 @@ sampleKind format bits =
     (cond (eqb format 2 && eqb bits 16) (accepted i16)
     (cond (eqb format 3 && eqb bits 32) (accepted f32) (refused unsupported))))
 
+-- "SamplesPerPixel 0 counts as 1 channel"
+abbrev pub channels : Directory → ℕ
+channels p = max 1 (p .scalars samplesPerPixel)
+
 -- The first full page against the CZ block: "XY, channels, T above 1, several interleaved channels, strips per channel".
--- "SamplesPerPixel 0 counts as 1 channel".
 unfoldable pub agreement : Directory → CzInfo → Result (Unit {0})
 agreement p i =
-    bind (need decode (eqb (i .dimX) (p .width) && eqb (i .dimY) (p .height))) (λ _.
-    bind (need decode (eqb (i .dimChannels) (max 1 (p .samples)))) (λ _.
+    bind (need decode (eqb (i .dimX) (p .scalars imageWidth) && eqb (i .dimY) (p .scalars imageLength))) (λ _.
+    bind (need decode (eqb (i .dimChannels) (channels p))) (λ _.
     bind (need unsupported (leb (i .dimTime) 1)) (λ _.
-    bind (need unsupported (leb (max 1 (p .samples)) 1 || p .planar)) (λ _.
-    need decode (not (eqb (length (p .offsets)) 0) && eqb (length (p .offsets) % max 1 (p .samples)) 0)))))
+    bind (need unsupported (leb (channels p) 1 || planar p)) (λ _.
+    need decode (not (eqb (length (p .offsets)) 0) && eqb (length (p .offsets) % channels p) 0)))))
 
 -- "layout, page count". Z of 0 counts as 1.
 unfoldable pub layoutFor : CzInfo → ℕ → Result Layout
@@ -144,9 +164,9 @@ describe o k p pages i =
     accepted (record {
       order = o;
       kind = k;
-      dims = record { t = 1; c = max 1 (p .samples); z = max 1 (i .dimZ); y = p .height; x = p .width };
+      dims = record { t = 1; c = channels p; z = max 1 (i .dimZ); y = p .scalars imageLength; x = p .scalars imageWidth };
       layout = l;
-      stripsPerChannel = length (p .offsets) / max 1 (p .samples);
+      stripsPerChannel = length (p .offsets) / channels p;
       calibration = i .calibration;
       channelBlock = i .channelColors;
     })))
@@ -155,8 +175,8 @@ describe o k p pages i =
 unfoldable pub describeWalk : Order → List ℕ → Walk → Result Description
 describeWalk o f w =
     bind (given decode (w .first)) (λ p.
-    bind (need unsupported (eqb (p .compression) 1)) (λ _.
-    bind (sampleKind (p .format) (p .bits)) (λ k.
+    bind (need unsupported (eqb (p .scalars compression) 1)) (λ _.
+    bind (sampleKind (p .scalars sampleFormat) (p .scalars bitsPerSample)) (λ k.
     bind (given decode (w .cz)) (λ cz.
     bind (czInfo o f (cz .0) (cz .1)) (λ i. describe o k p (length (w .pages)) i)))))
 

@@ -2,22 +2,19 @@
 -- first full page already. Assumes nothing.
 use Prim.Native.Nat.{ℕ, zero, suc, _+_, _≤_}
 use native.Mathlib.Omega.{arith}
-use mathlib.Core.Bool.{Bool, true, false, Bool·beq}
+use mathlib.Core.Bool.{Bool, true, false, cond}
 use mathlib.Core.Logic.{_⊎_, ⊎-elim, inl, inr}
 use mathlib.Core.Option.{Option, none, some}
 use mathlib.Core.Path.{_≡_, refl, _∙_}
 use mathlib.Core.List.{List}
 use lib.Dec.{eqb}
 use lib.ListN.{length}
-use borrow.Author.Tests.{eq-eqb}
 use Rattle.lsm_format.specs.Answer.{accepted, refused, bind, need, parse, decode}
 use Rattle.lsm_format.specs.Numbers.{Order}
-use Rattle.lsm_format.specs.Directory.{Directory}
-use Rattle.lsm_format.specs.Open.{Walk, chain}
+use Rattle.lsm_format.specs.Directory.{Directory, reduced}
+use Rattle.lsm_format.specs.Open.{agreesWith, agrees, Walk, earlier, fullPage, joined, chain}
 use Rattle.lsm_format.proofs.Accepting.{not-both}
-use Rattle.lsm_format.proofs.Open.{chain-full}
-use Rattle.lsm_directory.specs.Pages.{agreesBy, pageAgrees}
-use Rattle.lsm_reader.specs.Walked.{firstAfter, joined}
+use Rattle.lsm_format.proofs.Open.{agrees-self, stays, chain-full}
 
 -- ---- a directory that agreed once agrees again
 
@@ -31,34 +28,24 @@ keeps-self none = tt
 keeps-self (some p) = refl
 
 -- what was known of it before a directory is known after it
-keeps-before : (b : Bool) (first g : Option Directory) (d : Directory) → Keeps (firstAfter b first d) g → Keeps first g
-keeps-before true first g d k = k
-keeps-before false none g d k = tt
-keeps-before false (some p) g d k = k
+keeps-before : (first g later : Option Directory) → Keeps (earlier first later) g → Keeps first g
+keeps-before none g later k = tt
+keeps-before (some p) g later k = k
 
-same-flag : (b : Bool) → Bool·beq b b ≡ true
-same-flag true = refl
-same-flag false = refl
-
-self-agrees : (d : Directory) → agreesBy false (some d) d ≡ accepted tt
-unfolding bind
-self-agrees d =
-    rw (eq-eqb (d .width) (d .width) refl, eq-eqb (d .height) (d .height) refl, eq-eqb (d .samples) (d .samples) refl, eq-eqb (d .bits) (d .bits) refl, eq-eqb (d .format) (d .format) refl, eq-eqb (d .compression) (d .compression) refl, same-flag (d .planar), eq-eqb (length (d .offsets)) (length (d .offsets)) refl)
-
-again-by : (b : Bool) (first g : Option Directory) (d : Directory) → agreesBy b first d ≡ accepted tt → Keeps (firstAfter b first d) g →
-    (agreesBy b g d ≡ accepted tt) × (firstAfter b g d ≡ g)
-again-by true first g d a k = (refl, refl)
-again-by false none g d a k = (rw k (self-agrees d), rw k)
+again-by : (b : Bool) (first g : Option Directory) (d : Directory) → agreesWith (cond b none first) d ≡ accepted tt →
+    Keeps (earlier first (cond b none (some d))) g → (agreesWith (cond b none g) d ≡ accepted tt) × (earlier g (cond b none (some d)) ≡ g)
+again-by true first g d a k = (refl, stays g)
+again-by false none g d a k = (rw k (agrees-self d), rw k)
 again-by false (some p) g d a k = (rw k a, rw k)
 
-agrees-again : (first g : Option Directory) (d : Directory) → pageAgrees first d ≡ accepted tt → Keeps (firstAfter (d .reduced) first d) g →
-    (pageAgrees g d ≡ accepted tt) × (firstAfter (d .reduced) g d ≡ g)
-unfolding pageAgrees bind
+agrees-again : (first g : Option Directory) (d : Directory) → agrees first d ≡ accepted tt → Keeps (earlier first (fullPage d)) g →
+    (agrees g d ≡ accepted tt) × (earlier g (fullPage d) ≡ g)
+unfolding agrees bind
 agrees-again first g d a k = by (eqb (length (d .offsets)) (length (d .counts))) a
   where
-    by : (b : Bool) → bind (need decode b) (λ _. agreesBy (d .reduced) first d) ≡ accepted tt →
-        (bind (need decode b) (λ _. agreesBy (d .reduced) g d) ≡ accepted tt) × (firstAfter (d .reduced) g d ≡ g)
-    by true q = again-by (d .reduced) first g d q k
+    by : (b : Bool) → bind (need decode b) (λ _. agreesWith (cond (reduced d) none first) d) ≡ accepted tt →
+        (bind (need decode b) (λ _. agreesWith (cond (reduced d) none g) d) ≡ accepted tt) × (earlier g (fullPage d) ≡ g)
+    by true q = again-by (reduced d) first g d q k
     by false q = absurd (not-both decode tt q)
 
 -- ---- from a mark to a place
@@ -91,9 +78,9 @@ module _ (o : Order) (f : List ℕ) where
 
   -- one directory further
   module _ (first : Option Directory) (mark place next : ℕ) (d : Directory) (z : place ≡ 0 → ⊥)
-      (turn : (k : ℕ) (u : Walk) → pageAgrees (u .first) d ≡ accepted tt → chain (suc k) (eqb place 0) o f place u ≡ chain k (eqb next 0) o f next (joined u d))
-      (a : pageAgrees first d ≡ accepted tt) where
-    step : (n : ℕ) (w : Walk) → Keeps (firstAfter (d .reduced) first d) (w .first) → (m : ℕ) (v : Walk) → m ≤ n → v .first ≡ w .first →
+      (turn : (k : ℕ) (u : Walk) → agrees (u .first) d ≡ accepted tt → chain (suc k) (eqb place 0) o f place u ≡ chain k (eqb next 0) o f next (joined u d))
+      (a : agrees first d ≡ accepted tt) where
+    step : (n : ℕ) (w : Walk) → Keeps (earlier first (fullPage d)) (w .first) → (m : ℕ) (v : Walk) → m ≤ n → v .first ≡ w .first →
         chain n (eqb mark 0) o f mark w ≡ chain m (eqb place 0) o f place v →
         (chain n (eqb mark 0) o f mark w ≡ refused parse) ⊎ Further o f mark next 1 n w
     step n w k zero v h e s = inl (s ∙ chain-full o f place v z)
@@ -101,13 +88,13 @@ module _ (o : Order) (f : List ℕ) where
         let j = agrees-again first (v .first) d a (rw e k) in
         inr (record { left = m; later = joined v d; fewer = omega arith; kept = j .1 ∙ e; same = s ∙ turn m v (j .0) })
 
-    pub again-turn : Again o f 0 first mark place → Again o f 1 (firstAfter (d .reduced) first d) mark next
+    pub again-turn : Again o f 0 first mark place → Again o f 1 (earlier first (fullPage d)) mark next
     again-turn g =
         λ n w k.
         ⊎-elim
         (λ e. inl e)
         (λ x. let h : x .left + 0 ≤ n = x .fewer in step n w k (x .left) (x .later) (omega arith) (x .kept) (x .same))
-        (g n w (keeps-before (d .reduced) first (w .first) d k))
+        (g n w (keeps-before first (w .first) (fullPage d) k))
 
   -- ---- a circle
 

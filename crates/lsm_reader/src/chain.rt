@@ -8,6 +8,7 @@ use lsm_directory::EntryAnswer;
 use lsm_directory::First;
 use lsm_directory::agrees;
 use lsm_directory::directory_ends;
+use lsm_directory::is_reduced;
 use lsm_directory::plain_directory;
 use lsm_directory::put_value;
 use lsm_directory::read_entry;
@@ -17,16 +18,16 @@ use lsm_format::types::Endian;
 use lsm_values::StripArray;
 use lsm_values::strip_value;
 ghost use mathlib.Core.Path.{_≡_};
-ghost use mathlib.Core.List.{List, []};
+ghost use mathlib.Core.List.{List, [], _++_};
 ghost use Prim.Native.Nat.{ℕ, _+_, _*_, _≤_, _<_};
 ghost use lib.ListN.{length};
 ghost use Rattle.lsm_format.specs.Code.{orderOf};
 ghost use Rattle.lsm_format.specs.Numbers.{Order};
-ghost use Rattle.lsm_format.specs.Open.{Page, firstOf, stripWords};
+ghost use Rattle.lsm_format.specs.Open.{Page, earlier, pagesOf, stripWords, tableWords};
 ghost use Rattle.lsm_format.specs.Open as Open;
 ghost use Rattle.lsm_values.specs.Code.{valuesOf};
 ghost use Rattle.lsm_directory.specs.Code.{directoryOf, czOf, endsOf, SmallEnds};
-ghost use Rattle.lsm_reader.specs.Walked.{directoryWords, LaidPage, walkOf, joined, pagesAfter, visitEnds, marked, WalkedAs};
+ghost use Rattle.lsm_reader.specs.Walked.{LaidPage, walkOf, visitEnds, marked, WalkedAs};
 
 // What the directories visited so far tell.
 pub struct Walk {
@@ -55,7 +56,7 @@ fn no_directory() -> Walk
 
 // The first directory that has a CZ entry wins.
 fn first_entry(kept: CzEntry, later: CzEntry) -> CzEntry
-    ensures { λ r. ⌜ czOf r ≡ firstOf (czOf kept) (czOf later) ⌝ }
+    ensures { λ r. ⌜ czOf r ≡ earlier (czOf kept) (czOf later) ⌝ }
 {
     match kept {
         CzEntry::Absent => later,
@@ -66,20 +67,20 @@ fn first_entry(kept: CzEntry, later: CzEntry) -> CzEntry
 // A directory that agrees joins the walk: a reduced page supplies at most the CZ entry.
 fn join(w: Walk, d: Directory) -> Walk
     requires { ⌜ (w .visited < 1000000) × (w .pages ≤ w .visited) ⌝ }
-    ensures joined { λ r. ⌜ ((o : Order) (f : List ℕ) (ps : List Page) → walkOf o f (pagesAfter ps (directoryOf o f d)) r ≡ joined (walkOf o f ps w) (directoryOf o f d)) ⌝ }
+    ensures joined { λ r. ⌜ ((o : Order) (f : List ℕ) (ps : List Page) → walkOf o f (ps ++ pagesOf (directoryOf o f d)) r ≡ Open.joined (walkOf o f ps w) (directoryOf o f d)) ⌝ }
     ensures stepped { λ r. ⌜ (r .visited ≡ w .visited + 1) × (r .pages ≤ w .pages + 1) ⌝ }
-    ensures counted { λ r. ⌜ ((o : Order) (f : List ℕ) (ps : List Page) → w .pages ≡ length ps → r .pages ≡ length (pagesAfter ps (directoryOf o f d))) ⌝ }
+    ensures counted { λ r. ⌜ ((o : Order) (f : List ℕ) (ps : List Page) → w .pages ≡ length ps → r .pages ≡ length (ps ++ pagesOf (directoryOf o f d))) ⌝ }
 {
     let kept = w.cz;
     let found = d.cz;
     let cz = first_entry(kept, found);
     let first = w.first;
-    if d.reduced {
+    if is_reduced(d.new_subfile_type) {
         return Walk {
             visited: w.visited + 1,
             pages: w.pages,
             first,
-            cz,
+            cz, // the entry of a reduced page counts
         };
     }
     let First::Page(page) = first else {
@@ -149,9 +150,9 @@ fn fill_strips(buf: &[u8], offsets: StripArray, counts: StripArray, e: Endian, o
 // Lays a full page's strips into the table from word `used` on, if there is room for them; answers how many words are used then.
 fn lay_page(buf: &[u8], d: Directory, e: Endian, used: usize, table: &mut [usize]) -> usize
     requires { ⌜ (used ≤ length (now table)) × (d .offsets .count ≡ d .counts .count) ⌝ }
-    ensures { λ r. ⌜ LaidPage (directoryWords (directoryOf (orderOf e) (now (buf .entry)) d)) used (now (table .entry)) (now (table .exit)) r ⌝ }
+    ensures { λ r. ⌜ LaidPage (tableWords (pagesOf (directoryOf (orderOf e) (now (buf .entry)) d))) used (now (table .entry)) (now (table .exit)) r ⌝ }
 {
-    if d.reduced {
+    if is_reduced(d.new_subfile_type) {
         return used;
     }
     let offsets = d.offsets;

@@ -4,40 +4,43 @@ use native.Mathlib.Nat.{add-zero, mul-zero, mul-suc, mul-comm, suc-mul, le-div-i
 use native.Mathlib.Omega.{arith}
 use mathlib.Core.Bool.{Bool, true, false}
 use mathlib.Core.Option.{none, some}
-use mathlib.Core.Path.{_≡_, refl, sym}
+use mathlib.Core.Path.{_≡_, refl, sym, _∙_}
 use mathlib.Core.List.{List, []}
 use lib.Dec.{leb}
 use lib.ListN.{length, getD, List·getD-eq-default}
 use borrow.Author.Tests.{ne-eqb, le-leb, lt-leb}
 use Rattle.lsm_format.specs.Answer.{Result, accepted, refused, bind, need, parse, decode}
 use Rattle.lsm_format.specs.Numbers.{Order, numberAt}
-use Rattle.lsm_format.specs.Directory.{typeSize, integerSize, valuePlace, elementSize, arrayPlace, numbers, array}
-use Rattle.lsm_format.proofs.Directory.{numbers-past}
+use Rattle.lsm_format.specs.Directory.{typeSize, integerSize, valueAt, valuesAt, Values, valuePlace, entryValues, arrayValues, array}
+use Rattle.lsm_format.proofs.Directory.{values-next, values-past}
 use Rattle.lsm_format.proofs.Numbers.{number-there, number-past}
 use Rattle.lsm_values.specs.Values.{orNought, values, arrayAt}
 
--- numbers that are all in the file are its values
-pub numbers-there : (n size : ℕ) (o : Order) (f : List ℕ) (p : ℕ) → p + size * n ≤ length f → numbers n size o f p ≡ accepted (values n size o f p)
-unfolding numbers values orNought bind
-numbers-there zero size o f p h = refl
-numbers-there (suc n) size o f p h =
-    rw (number-there size o f p (omega (arith, mul-suc size n)), numbers-there n size o f (p + size) (omega (arith, mul-suc size n)))
+values-none : (type : ℕ) (o : Order) (f : List ℕ) (p : ℕ) → valuesAt 0 type o f p ≡ accepted []
+unfolding valuesAt
+values-none type o f p = refl
+
+-- values that are all in the file are the numbers there
+pub values-there : (n type size : ℕ) (o : Order) (f : List ℕ) (p : ℕ) → integerSize type ≡ some size → p + size * n ≤ length f →
+    valuesAt n type o f p ≡ accepted (values n size o f p)
+unfolding values orNought bind
+values-there zero type size o f p i h = values-none type o f p
+values-there (suc n) type size o f p i h =
+    let there = number-there size o f p (omega (arith, mul-suc size n)) in
+    values-next n type size o f p i _ there ∙ rw (there, values-there n type size o f (p + size) i (omega (arith, mul-suc size n)))
 
 module _ (o : Order) (f : List ℕ) (type count : ℕ) where
-  after-by : (p : ℕ) (b : Bool) (r : Result ℕ) →
-      bind (need decode b) (λ _. bind r (λ s. numbers count s o f p))
-      ≡ bind {A = ℕ × ℕ} (bind (need decode b) (λ _. bind r (λ s. accepted (p, s)))) (λ v. numbers count (v .1) o f (v .0))
-  unfolding bind
-  after-by p true (accepted s) = refl
-  after-by p true (refused row) = refl
-  after-by p false (accepted s) = refl
-  after-by p false (refused row) = refl
-
   -- an array from the place of its values on
   pub array-after : (place size p : ℕ) → size ≡ typeSize type → (size ≡ 0 → ⊥) → valuePlace o f size count place ≡ accepted p →
       arrayAt o f type count p ≡ array o f type count place
-  unfolding array arrayPlace arrayAt bind
-  array-after place size p is z e = rw (← is, ne-eqb size 0 z, e) (after-by p (leb count 100000) (elementSize count type))
+  unfolding array arrayValues entryValues arrayAt bind
+  array-after place size p is z e = rw (← is, ne-eqb size 0 z, e) (by (leb count 100000))
+    where
+      by : (b : Bool) →
+          bind (need decode b) (λ _. valuesAt count type o f p)
+          ≡ bind {A = Values} (bind (need decode b) (λ _. accepted (record { place = p; type = type; count = count }))) (λ v. valuesAt (v .count) (v .type) o f (v .place))
+      by true = refl
+      by false = refl
 
   pub array-many : (p : ℕ) → 100000 < count → refused decode ≡ arrayAt o f type count p
   unfolding arrayAt bind
@@ -45,31 +48,26 @@ module _ (o : Order) (f : List ℕ) (type count : ℕ) where
 
 module _ (o : Order) (f : List ℕ) (type : ℕ) where
   pub array-empty : (count p : ℕ) → count ≡ 0 → accepted [] ≡ arrayAt o f type count p
-  unfolding arrayAt bind numbers
+  unfolding arrayAt bind valuesAt
   array-empty count p z = rw z
 
-  element : (count : ℕ) → (count ≡ 0 → ⊥) → (size : ℕ) → integerSize type ≡ some size → elementSize count type ≡ accepted size
-  element zero z size i = absurd (z refl)
-  element (suc n) z size i = rw i
-
   pub array-no-number : (count p : ℕ) → count ≤ 100000 → (count ≡ 0 → ⊥) → integerSize type ≡ none → refused decode ≡ arrayAt o f type count p
-  unfolding arrayAt bind
+  unfolding arrayAt valuesAt valueAt bind
   array-no-number zero p h z i = absurd (z refl)
   array-no-number (suc n) p h z i = rw (le-leb (suc n) 100000 h, i)
 
-  numbers-of : (count p size : ℕ) → count ≤ 100000 → (count ≡ 0 → ⊥) → integerSize type ≡ some size →
-      numbers count size o f p ≡ arrayAt o f type count p
+  values-of : (count p : ℕ) → count ≤ 100000 → valuesAt count type o f p ≡ arrayAt o f type count p
   unfolding arrayAt bind
-  numbers-of count p size h z i = rw (le-leb count 100000 h, element count z size i)
+  values-of count p h = rw (le-leb count 100000 h)
 
   pub array-past : (count p size : ℕ) → count ≤ 100000 → (count ≡ 0 → ⊥) → integerSize type ≡ some size → length f < p + size * count →
       refused parse ≡ arrayAt o f type count p
   array-past zero p size h z i l = absurd (z refl)
-  array-past (suc n) p size h z i l = rw (← numbers-of (suc n) p size h z i) (sym (numbers-past n size o f p l))
+  array-past (suc n) p size h z i l = rw (← values-of (suc n) p h) (sym (values-past n type size o f p i l))
 
   pub array-there : (count p size : ℕ) → count ≤ 100000 → (count ≡ 0 → ⊥) → integerSize type ≡ some size → p + size * count ≤ length f →
       accepted (values count size o f p) ≡ arrayAt o f type count p
-  array-there count p size h z i l = rw (← numbers-of count p size h z i) (sym (numbers-there count size o f p l))
+  array-there count p size h z i l = rw (← values-of count p h) (sym (values-there count type size o f p i l))
 
 -- an array has as many values as it counts
 pub values-length : (n size : ℕ) (o : Order) (f : List ℕ) (p : ℕ) → length (values n size o f p) ≡ n

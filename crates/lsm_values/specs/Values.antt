@@ -3,7 +3,7 @@ use Prim.Native.Nat.{ℕ, zero, suc, _+_}
 use mathlib.Core.List.{List, [], _∷_}
 use lib.Dec.{leb}
 use Rattle.lsm_format.specs.Answer.{Result, accepted, refused, bind, need, decode}
-use Rattle.lsm_format.specs.Directory.{elementSize, numbers}
+use Rattle.lsm_format.specs.Directory.{valuesAt}
 use Rattle.lsm_format.specs.Numbers.{Order, numberAt}
 
 -- A number that was read; 0 where it is past the end of the file.
@@ -19,4 +19,4 @@ values (suc n) size o f p = orNought (numberAt size o f p) ∷ values n size o f
 -- A strip array whose place is known already: the checks that are left of it.
 unfoldable pub arrayAt : Order → List ℕ → ℕ → ℕ → ℕ → Result (List ℕ)
 arrayAt o f type count p =
-    bind (need decode (leb count 100000)) (λ _. bind (elementSize count type) (λ size. numbers count size o f p))
+    bind (need decode (leb count 100000)) (λ _. valuesAt count type o f p)

@@ -18,8 +18,8 @@ use Rattle.lsm_format.specs.Scenes.{layout, scenes, pagesExpected, pageOf}
 use Rattle.lsm_format.specs.Lent.{lend, filled}
 use Rattle.lsm_format.specs.CzInfo.{czInfo, header, extents, voxels, channelBlock, shots, czRanges}
 use Rattle.lsm_format.specs.Channels.{channelsRanges, channelRanges}
-use Rattle.lsm_format.specs.Directory.{directory, entries, entry, scalar, scalarPlace, array, arrayPlace, numbers, valuePlace, typeSize, integerSize, entryRanges, entriesRanges, directoryRanges}
-use Rattle.lsm_format.specs.Open.{openFile, openMemory, read, tiffHeader, walk, chain, join, describeWalk, agreement, layoutFor, describe, chainRanges, walkRanges, openRanges}
+use Rattle.lsm_format.specs.Directory.{directory, ends, entries, entry, scalar, scalarValues, array, arrayValues, entryValues, valueAt, valuesAt, valuePlace, typeSize, integerSize, entryRanges, entriesRanges, directoryRanges}
+use Rattle.lsm_format.specs.Open.{openFile, openMemory, read, tiffHeader, walk, chain, join, agrees, describeWalk, agreement, layoutFor, describe, chainRanges, walkRanges, openRanges}
 use Rattle.lsm_format.specs.Picture.{total, place, stored, inside, span, bytes, picture, each, window, channelStrips, sceneThere, coordinateThere, planeStrips, inTurn, channelPicture, samplesIn, plane, planeFrom, wholeStrips, rowsIn, wholeChannel, wholeChannels, wholePages, wholeRows, rowStrips, windowStrips, regionStrips, regionFrom}
 use Rattle.lsm_format.specs.Listed.{stripsRanges, listed, spanRanges, sampleRanges, windowRanges, regionRanges, listedFor}
 use Rattle.lsm_overwrite.specs.Blind.{Overwritten, Held, Blind, BlindFor}
@@ -39,26 +39,26 @@ abbrev second : Rect
 second = record { x = 1; y = 0; w = 1; h = 1 }
 
 opening-lists : flat (openRanges G) ≡ G-open
-unfolding openRanges walkRanges chainRanges directoryRanges entriesRanges entryRanges czRanges over inFile flat tiffHeader walk chain join directory entries entry scalar scalarPlace array arrayPlace numbers valuePlace typeSize integerSize header i32At signed32 numberAt partAt bind
+unfolding openRanges walkRanges chainRanges directoryRanges entriesRanges entryRanges czRanges over inFile flat tiffHeader walk chain join agrees directory ends entries entry scalar scalarValues array arrayValues entryValues valueAt valuesAt valuePlace typeSize integerSize header i32At signed32 numberAt partAt bind
 opening-lists = refl
 
 -- with G's strip; 86 and 87 are spare
 all-lists : flat (listed G) ≡ G-open ++ (116, 2) ∷ []
-unfolding listed stripsRanges channelsRanges channelRanges openRanges read describeWalk agreement layoutFor describe czInfo extents voxels channelBlock shots layout scenes pagesExpected word walkRanges chainRanges directoryRanges entriesRanges entryRanges czRanges over inFile flat tiffHeader walk chain join directory entries entry scalar scalarPlace array arrayPlace numbers valuePlace typeSize integerSize header i32At signed32 numberAt partAt bind
+unfolding listed stripsRanges channelsRanges channelRanges openRanges read describeWalk agreement layoutFor describe czInfo extents voxels channelBlock shots layout scenes pagesExpected word walkRanges chainRanges directoryRanges entriesRanges entryRanges czRanges over inFile flat tiffHeader walk chain join agrees directory ends entries entry scalar scalarValues array arrayValues entryValues valueAt valuesAt valuePlace typeSize integerSize header i32At signed32 numberAt partAt bind
 all-lists = refl
 
 -- "of the strips only the places of its samples in the channel's joined strips": "byte 117", and not 116
 second-lists : flat (listedFor G (coordinate 0 0 0 0) second) ≡ G-open ++ (117, 1) ∷ []
-unfolding listedFor regionRanges regionFrom windowRanges sampleRanges spanRanges place sceneThere coordinateThere coordinates rectangle regionStrips wholeRows wholePages wholeChannels wholeChannel wholeStrips rowsIn rowStrips windowStrips total pictureSize unlimitedSize channelStrips pageOf inside openRanges read describeWalk agreement layoutFor describe czInfo extents voxels channelBlock shots layout scenes pagesExpected word walkRanges chainRanges directoryRanges entriesRanges entryRanges czRanges over inFile flat tiffHeader walk chain join directory entries entry scalar scalarPlace array arrayPlace numbers valuePlace typeSize integerSize header i32At signed32 numberAt partAt bind
+unfolding listedFor regionRanges regionFrom windowRanges sampleRanges spanRanges place sceneThere coordinateThere coordinates rectangle regionStrips wholeRows wholePages wholeChannels wholeChannel wholeStrips rowsIn rowStrips windowStrips total pictureSize unlimitedSize channelStrips pageOf inside openRanges read describeWalk agreement layoutFor describe czInfo extents voxels channelBlock shots layout scenes pagesExpected word walkRanges chainRanges directoryRanges entriesRanges entryRanges czRanges over inFile flat tiffHeader walk chain join agrees directory ends entries entry scalar scalarValues array arrayValues entryValues valueAt valuesAt valuePlace typeSize integerSize header i32At signed32 numberAt partAt bind
 second-lists = refl
 
 -- "none if it isn't accepted": a rectangle that passes the picture; and none of an empty one
 passing-lists : flat (listedFor G (coordinate 0 0 0 0) (record { x = 1; y = 0; w = 2; h = 1 })) ≡ G-open
-unfolding listedFor regionRanges regionFrom windowRanges sampleRanges spanRanges place sceneThere coordinateThere coordinates rectangle regionStrips wholeRows wholePages wholeChannels wholeChannel wholeStrips rowsIn rowStrips windowStrips total pictureSize unlimitedSize channelStrips pageOf inside openRanges read describeWalk agreement layoutFor describe czInfo extents voxels channelBlock shots layout scenes pagesExpected word walkRanges chainRanges directoryRanges entriesRanges entryRanges czRanges over inFile flat tiffHeader walk chain join directory entries entry scalar scalarPlace array arrayPlace numbers valuePlace typeSize integerSize header i32At signed32 numberAt partAt bind
+unfolding listedFor regionRanges regionFrom windowRanges sampleRanges spanRanges place sceneThere coordinateThere coordinates rectangle regionStrips wholeRows wholePages wholeChannels wholeChannel wholeStrips rowsIn rowStrips windowStrips total pictureSize unlimitedSize channelStrips pageOf inside openRanges read describeWalk agreement layoutFor describe czInfo extents voxels channelBlock shots layout scenes pagesExpected word walkRanges chainRanges directoryRanges entriesRanges entryRanges czRanges over inFile flat tiffHeader walk chain join agrees directory ends entries entry scalar scalarValues array arrayValues entryValues valueAt valuesAt valuePlace typeSize integerSize header i32At signed32 numberAt partAt bind
 passing-lists = refl
 
 empty-lists : flat (listedFor G (coordinate 0 0 0 0) (record { x = 1; y = 0; w = 0; h = 1 })) ≡ G-open
-unfolding listedFor regionRanges regionFrom windowRanges sampleRanges spanRanges place sceneThere coordinateThere coordinates rectangle regionStrips wholeRows wholePages wholeChannels wholeChannel wholeStrips rowsIn rowStrips windowStrips total pictureSize unlimitedSize channelStrips pageOf inside openRanges read describeWalk agreement layoutFor describe czInfo extents voxels channelBlock shots layout scenes pagesExpected word walkRanges chainRanges directoryRanges entriesRanges entryRanges czRanges over inFile flat tiffHeader walk chain join directory entries entry scalar scalarPlace array arrayPlace numbers valuePlace typeSize integerSize header i32At signed32 numberAt partAt bind
+unfolding listedFor regionRanges regionFrom windowRanges sampleRanges spanRanges place sceneThere coordinateThere coordinates rectangle regionStrips wholeRows wholePages wholeChannels wholeChannel wholeStrips rowsIn rowStrips windowStrips total pictureSize unlimitedSize channelStrips pageOf inside openRanges read describeWalk agreement layoutFor describe czInfo extents voxels channelBlock shots layout scenes pagesExpected word walkRanges chainRanges directoryRanges entriesRanges entryRanges czRanges over inFile flat tiffHeader walk chain join agrees directory ends entries entry scalar scalarValues array arrayValues entryValues valueAt valuesAt valuePlace typeSize integerSize header i32At signed32 numberAt partAt bind
 empty-lists = refl
 
 -- ---- on the list or not
@@ -99,16 +99,16 @@ spare-116 =
 -- ---- with a shorter list the statement would be false
 
 held : Held G
-unfolding openFile lend read describeWalk agreement layoutFor describe czInfo extents voxels channelBlock shots layout scenes pagesExpected word tiffHeader walk chain join directory entries entry scalar scalarPlace array arrayPlace numbers valuePlace typeSize integerSize header i32At signed32 numberAt partAt bind
+unfolding openFile lend read describeWalk agreement layoutFor describe czInfo extents voxels channelBlock shots layout scenes pagesExpected word tiffHeader walk chain join agrees directory ends entries entry scalar scalarValues array arrayValues entryValues valueAt valuesAt valuePlace typeSize integerSize header i32At signed32 numberAt partAt bind
 held = record { lent = 0 ∷ 0 ∷ []; opened = G-opened; gave = refl }
 
 held-eight : Held G-eight
-unfolding openFile lend read describeWalk agreement layoutFor describe czInfo extents voxels channelBlock shots layout scenes pagesExpected word tiffHeader walk chain join directory entries entry scalar scalarPlace array arrayPlace numbers valuePlace typeSize integerSize header i32At signed32 numberAt partAt bind
+unfolding openFile lend read describeWalk agreement layoutFor describe czInfo extents voxels channelBlock shots layout scenes pagesExpected word tiffHeader walk chain join agrees directory ends entries entry scalar scalarValues array arrayValues entryValues valueAt valuesAt valuePlace typeSize integerSize header i32At signed32 numberAt partAt bind
 held-eight = record { lent = 0 ∷ 0 ∷ []; opened = G-opened; gave = refl }
 
 -- the samples of plane tell G from G with another first sample
 differ : Blind G G-eight → ⊥
-unfolding held held-eight openMemory filled plane planeFrom planeStrips inTurn total samplesIn channelPicture each picture stored place span bytes window sceneThere coordinateThere coordinates pictureSize unlimitedSize channelStrips pageOf inside openFile lend read describeWalk agreement layoutFor describe czInfo extents voxels channelBlock shots layout scenes pagesExpected word tiffHeader walk chain join directory entries entry scalar scalarPlace array arrayPlace numbers valuePlace typeSize integerSize header i32At signed32 numberAt partAt bind
+unfolding held held-eight openMemory filled plane planeFrom planeStrips inTurn total samplesIn channelPicture each picture stored place span bytes window sceneThere coordinateThere coordinates pictureSize unlimitedSize channelStrips pageOf inside openFile lend read describeWalk agreement layoutFor describe czInfo extents voxels channelBlock shots layout scenes pagesExpected word tiffHeader walk chain join agrees directory ends entries entry scalar scalarValues array arrayValues entryValues valueAt valuesAt valuePlace typeSize integerSize header i32At signed32 numberAt partAt bind
 differ b =
     let e : _≡_ {A = List ℕ} (8 ∷ 9 ∷ []) (7 ∷ 9 ∷ []) = b .planeLeaves held held-eight (coordinate 0 0 0 0) (0 ∷ 0 ∷ []) in
     let n : _≡_ {A = ℕ} 8 7 = cc in

@@ -12,8 +12,8 @@ use Rattle.lsm_format.specs.Rectangle.{Rect, coordinate, coordinates, rectangle
 use Rattle.lsm_format.specs.Scenes.{layout, scenes, pagesExpected, pageOf}
 use Rattle.lsm_format.specs.CzInfo.{czInfo, header, extents, voxels, channelBlock, shots, czRanges}
 use Rattle.lsm_format.specs.Channels.{pointers, nameRecord, colorAtRanges, colorRanges, recordRanges, nameRanges, channelsRanges, channelRanges}
-use Rattle.lsm_format.specs.Directory.{directory, entries, entry, scalar, scalarPlace, array, arrayPlace, numbers, valuePlace, typeSize, integerSize, entryRanges, entriesRanges, directoryRanges}
-use Rattle.lsm_format.specs.Open.{read, tiffHeader, walk, chain, join, describeWalk, agreement, layoutFor, describe, chainRanges, walkRanges, openRanges}
+use Rattle.lsm_format.specs.Directory.{directory, ends, entries, entry, scalar, scalarValues, array, arrayValues, entryValues, valueAt, valuesAt, valuePlace, typeSize, integerSize, entryRanges, entriesRanges, directoryRanges}
+use Rattle.lsm_format.specs.Open.{read, tiffHeader, walk, chain, join, agrees, describeWalk, agreement, layoutFor, describe, chainRanges, walkRanges, openRanges}
 use Rattle.lsm_format.specs.Picture.{place, inside, total, channelStrips, sceneThere, coordinateThere, planeStrips, inTurn, wholeStrips, rowsIn, wholeChannel, wholeChannels, wholePages, wholeRows, rowStrips, windowStrips, regionStrips, regionFrom}
 use Rattle.lsm_format.specs.Listed.{stripsRanges, listed, spanRanges, sampleRanges, windowRanges, regionRanges, listedFor}
 
@@ -120,11 +120,11 @@ H-rest =
     ∷ (474, 3) ∷ (478, 1) ∷ []
 
 opening-lists : flat (openRanges H) ≡ H-open
-unfolding openRanges walkRanges chainRanges directoryRanges entriesRanges entryRanges czRanges over inFile flat tiffHeader walk chain join directory entries entry scalar scalarPlace array arrayPlace numbers valuePlace typeSize integerSize header i32At signed32 numberAt partAt bind
+unfolding openRanges walkRanges chainRanges directoryRanges entriesRanges entryRanges czRanges over inFile flat tiffHeader walk chain join agrees directory ends entries entry scalar scalarValues array arrayValues entryValues valueAt valuesAt valuePlace typeSize integerSize header i32At signed32 numberAt partAt bind
 opening-lists = refl
 
 all-lists : flat (listed H) ≡ H-open ++ H-rest
-unfolding listed stripsRanges channelsRanges channelRanges pointers colorRanges colorAtRanges nameRanges recordRanges nameRecord read describeWalk agreement layoutFor describe czInfo extents voxels channelBlock shots layout scenes pagesExpected word openRanges walkRanges chainRanges directoryRanges entriesRanges entryRanges czRanges over inFile flat tiffHeader walk chain join directory entries entry scalar scalarPlace array arrayPlace numbers valuePlace typeSize integerSize header i32At signed32 numberAt partAt bind
+unfolding listed stripsRanges channelsRanges channelRanges pointers colorRanges colorAtRanges nameRanges recordRanges nameRecord read describeWalk agreement layoutFor describe czInfo extents voxels channelBlock shots layout scenes pagesExpected word openRanges walkRanges chainRanges directoryRanges entriesRanges entryRanges czRanges over inFile flat tiffHeader walk chain join agrees directory ends entries entry scalar scalarValues array arrayValues entryValues valueAt valuesAt valuePlace typeSize integerSize header i32At signed32 numberAt partAt bind
 all-lists = refl
 
 -- the second row, which the two strips share
@@ -134,5 +134,5 @@ row = record { x = 0; y = 1; w = 2; h = 1 }
 -- "For one rectangle, of the strips only the places of its samples in the channel's joined strips": the last byte of the first strip, and
 -- the second strip. None of the channel block.
 row-lists : flat (listedFor H (coordinate 0 0 0 0) row) ≡ H-open ++ (476, 1) ∷ (478, 1) ∷ []
-unfolding listedFor regionRanges regionFrom windowRanges sampleRanges spanRanges place sceneThere coordinateThere coordinates rectangle regionStrips planeStrips inTurn total wholeRows wholePages wholeChannels wholeChannel wholeStrips rowsIn rowStrips windowStrips pictureSize unlimitedSize channelStrips pageOf inside read describeWalk agreement layoutFor describe czInfo extents voxels channelBlock shots layout scenes pagesExpected word openRanges walkRanges chainRanges directoryRanges entriesRanges entryRanges czRanges over inFile flat tiffHeader walk chain join directory entries entry scalar scalarPlace array arrayPlace numbers valuePlace typeSize integerSize header i32At signed32 numberAt partAt bind
+unfolding listedFor regionRanges regionFrom windowRanges sampleRanges spanRanges place sceneThere coordinateThere coordinates rectangle regionStrips planeStrips inTurn total wholeRows wholePages wholeChannels wholeChannel wholeStrips rowsIn rowStrips windowStrips pictureSize unlimitedSize channelStrips pageOf inside read describeWalk agreement layoutFor describe czInfo extents voxels channelBlock shots layout scenes pagesExpected word openRanges walkRanges chainRanges directoryRanges entriesRanges entryRanges czRanges over inFile flat tiffHeader walk chain join agrees directory ends entries entry scalar scalarValues array arrayValues entryValues valueAt valuesAt valuePlace typeSize integerSize header i32At signed32 numberAt partAt bind
 row-lists = refl

@@ -11,8 +11,8 @@ use Rattle.lsm_format.specs.Rectangle.{coordinates, rectangle}
 use Rattle.lsm_format.specs.Scenes.{layout, scenes, pagesExpected, pageOf}
 use Rattle.lsm_format.specs.Lent.{lend}
 use Rattle.lsm_format.specs.CzInfo.{czInfo, header, extents, voxels, channelBlock, shots}
-use Rattle.lsm_format.specs.Directory.{directory, entries, entry, scalar, scalarPlace, array, arrayPlace, numbers, valuePlace, typeSize, integerSize}
-use Rattle.lsm_format.specs.Open.{openFile, read, tiffHeader, walk, chain, join, describeWalk, agreement, layoutFor, describe}
+use Rattle.lsm_format.specs.Directory.{directory, ends, entries, entry, scalar, scalarValues, array, arrayValues, entryValues, valueAt, valuesAt, valuePlace, typeSize, integerSize}
+use Rattle.lsm_format.specs.Open.{openFile, read, tiffHeader, walk, chain, join, agrees, describeWalk, agreement, layoutFor, describe}
 use Rattle.lsm_format.specs.Picture.{sceneThere, coordinateThere, plane, planeFrom, planeStrips, inTurn, channelStrips, inside, total, samplesIn, channelPicture, window, span, picture, bytes, stored, place, each as eachSample, region, regionFrom, regionStrips, wholeRows, wholePages, wholeChannels, wholeChannel, wholeStrips, rowsIn, rowStrips, windowStrips}
 use Rattle.lsm_format.specs.Utf8.{lossy, lossyBy, piece}
 use Rattle.lsm_format.specs.Calibration.{figure, tensAbove, tensBelow}
@@ -23,7 +23,7 @@ use Rattle.marked_cases.specs.Marked.{G, G-with, G-plane, G-region, Mark
 -- ---- the marked cases
 
 pub marked : Marked
-unfolding figure tensAbove tensBelow lossy lossyBy piece openFile read tiffHeader walk chain join directory entries entry scalar scalarPlace array arrayPlace numbers valuePlace typeSize integerSize describeWalk agreement layoutFor describe czInfo header extents voxels channelBlock shots i32At signed32 numberAt partAt layout scenes pagesExpected word lend bind sceneThere coordinateThere coordinates rectangle plane planeFrom planeStrips inTurn pictureSize unlimitedSize channelStrips pageOf inside total samplesIn channelPicture window span picture bytes stored place eachSample region regionFrom regionStrips wholeRows wholePages wholeChannels wholeChannel wholeStrips rowsIn rowStrips windowStrips
+unfolding figure tensAbove tensBelow lossy lossyBy piece openFile read tiffHeader walk chain join agrees directory ends entries entry scalar scalarValues array arrayValues entryValues valueAt valuesAt valuePlace typeSize integerSize describeWalk agreement layoutFor describe czInfo header extents voxels channelBlock shots i32At signed32 numberAt partAt layout scenes pagesExpected word lend bind sceneThere coordinateThere coordinates rectangle plane planeFrom planeStrips inTurn pictureSize unlimitedSize channelStrips pageOf inside total samplesIn channelPicture window span picture bytes stored place eachSample region regionFrom regionStrips wholeRows wholePages wholeChannels wholeChannel wholeStrips rowsIn rowStrips windowStrips
 marked = record {
   figure-1005 = refl;
   figure-1015 = refl;
@@ -62,7 +62,7 @@ lossy-E2-82 = refl
 
 -- the strip table's length comes last: 7 with the words needed
 one-word : openFile G 1 ≡ refused (7 ∷ 2 ∷ [])
-unfolding openFile read tiffHeader walk chain join directory entries entry scalar scalarPlace array arrayPlace numbers valuePlace typeSize integerSize describeWalk agreement layoutFor describe czInfo header extents voxels channelBlock shots i32At signed32 numberAt partAt layout scenes pagesExpected word lend bind
+unfolding openFile read tiffHeader walk chain join agrees directory ends entries entry scalar scalarValues array arrayValues entryValues valueAt valuesAt valuePlace typeSize integerSize describeWalk agreement layoutFor describe czInfo header extents voxels channelBlock shots i32At signed32 numberAt partAt layout scenes pagesExpected word lend bind
 one-word = refl
 
 pictures :
@@ -70,7 +70,7 @@ pictures :
     (G-plane G ≡ accepted (record { rows = 1; columns = 2; bytes = 7 ∷ 9 ∷ [] }))
     -- the rectangle at column 1 where plane is refused
     × (G-region (G-with 66 1) 1 0 1 1 ≡ refused (2 ∷ []))
-unfolding openFile read tiffHeader walk chain join directory entries entry scalar scalarPlace array arrayPlace numbers valuePlace typeSize integerSize describeWalk agreement layoutFor describe czInfo header extents voxels channelBlock shots i32At signed32 numberAt partAt layout scenes pagesExpected word lend bind sceneThere coordinateThere coordinates rectangle plane planeFrom planeStrips inTurn pictureSize unlimitedSize channelStrips pageOf inside total samplesIn channelPicture window span picture bytes stored place eachSample region regionFrom regionStrips wholeRows wholePages wholeChannels wholeChannel wholeStrips rowsIn rowStrips windowStrips
+unfolding openFile read tiffHeader walk chain join agrees directory ends entries entry scalar scalarValues array arrayValues entryValues valueAt valuesAt valuePlace typeSize integerSize describeWalk agreement layoutFor describe czInfo header extents voxels channelBlock shots i32At signed32 numberAt partAt layout scenes pagesExpected word lend bind sceneThere coordinateThere coordinates rectangle plane planeFrom planeStrips inTurn pictureSize unlimitedSize channelStrips pageOf inside total samplesIn channelPicture window span picture bytes stored place eachSample region regionFrom regionStrips wholeRows wholePages wholeChannels wholeChannel wholeStrips rowsIn rowStrips windowStrips
 pictures = (refl, refl)
 
 -- ---- what the lister prints
@@ -95,5 +95,5 @@ printed : printout G ≡
     ∷ 45 ∷ 32 ∷ 45 ∷ 10
     -- notes 0
     ∷ 110 ∷ 111 ∷ 116 ∷ 101 ∷ 115 ∷ 32 ∷ 48 ∷ 10 ∷ []
-unfolding printout text acceptedLines headLines dimsLine kindLine pixelLine scenesLine sceneLine channelsLine channelLine noteLines each decimal decimalBy channelIn openFile read tiffHeader walk chain join directory entries entry scalar scalarPlace array arrayPlace numbers valuePlace typeSize integerSize describeWalk agreement layoutFor describe czInfo header extents voxels channelBlock shots i32At signed32 numberAt partAt layout scenes pagesExpected word lend bind
+unfolding printout text acceptedLines headLines dimsLine kindLine pixelLine scenesLine sceneLine channelsLine channelLine noteLines each decimal decimalBy channelIn openFile read tiffHeader walk chain join agrees directory ends entries entry scalar scalarValues array arrayValues entryValues valueAt valuesAt valuePlace typeSize integerSize describeWalk agreement layoutFor describe czInfo header extents voxels channelBlock shots i32At signed32 numberAt partAt layout scenes pagesExpected word lend bind
 printed = refl

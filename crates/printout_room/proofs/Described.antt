@@ -17,7 +17,7 @@ use Rattle.lsm_format.specs.Sizes.{Kind}
 use Rattle.lsm_format.specs.Scenes.{Layout, layout, scenes}
 use Rattle.lsm_format.specs.Lent.{lend}
 use Rattle.lsm_format.specs.CzInfo.{CzInfo, Extents, size, extents, czInfo}
-use Rattle.lsm_format.specs.Directory.{Directory}
+use Rattle.lsm_format.specs.Directory.{imageWidth, imageLength, Directory}
 use Rattle.lsm_format.specs.Open.{Description, Opened, agreement, layoutFor, describe, describeWalk, read, openFile}
 use Rattle.lsm_format.specs.Picture.{stripsPerPage}
 use Rattle.lsm_format.proofs.Numbers.{number-past, number-there, signed-low, signed-high, less-than-all}
@@ -84,11 +84,11 @@ always P (refused row) h = tt
 equal : (a b c d : ℕ) → (eqb a b && eqb c d) ≡ true → (a ≡ b) × (c ≡ d)
 equal a b c d t = (eqb-true a b (both-hold (eqb a b) (eqb c d) t .0), eqb-true c d (both-hold (eqb a b) (eqb c d) t .1))
 
-agreement-sizes : (p : Directory) (i : CzInfo) → Accepting (λ (u : Unit {0}). (i .dimX ≡ p .width) × (i .dimY ≡ p .height)) (agreement p i)
+agreement-sizes : (p : Directory) (i : CzInfo) → Accepting (λ (u : Unit {0}). (i .dimX ≡ p .scalars imageWidth) × (i .dimY ≡ p .scalars imageLength)) (agreement p i)
 unfolding agreement
 agreement-sizes p i =
-    accepting-bind _ _ _ _ (accepting-need decode (eqb (i .dimX) (p .width) && eqb (i .dimY) (p .height))) (λ _ t.
-    always _ _ (λ _. equal (i .dimX) (p .width) (i .dimY) (p .height) t))
+    accepting-bind _ _ _ _ (accepting-need decode (eqb (i .dimX) (p .scalars imageWidth) && eqb (i .dimY) (p .scalars imageLength))) (λ _ t.
+    always _ _ (λ _. equal (i .dimX) (p .scalars imageWidth) (i .dimY) (p .scalars imageLength) t))
 
 -- "Scenes are P × M, at least 1."
 layout-some : (i : CzInfo) (pages : ℕ) → Accepting (λ (l : Layout). 0 < l .scenes) (layoutFor i pages)

@@ -13,8 +13,8 @@ use Rattle.lsm_format.specs.Numbers.{Order, partAt, numberAt, i32At}
 use Rattle.lsm_format.specs.Scenes.{count, scenes, layout, pagesExpected}
 use Rattle.lsm_format.specs.Lent.{lend}
 use Rattle.lsm_format.specs.CzInfo.{CzInfo, header, extents, voxels, channelBlock, shots, from, czInfo}
-use Rattle.lsm_format.specs.Directory.{Directory, Tag, field, stripOffsets, stripByteCounts, czLsmInfo, other, placeBy, valuePlace, scalarPlace, scalar, elementSize, arrayPlace, numbers, array, entryBy, entry, entries, directory}
-use Rattle.lsm_format.specs.Open.{Walk, tiffHeader, joinBy, join, chain, walk, agreement, layoutFor, describe, describeWalk, read, openFile, fileLimit}
+use Rattle.lsm_format.specs.Directory.{Directory, Tag, field, stripOffsets, stripByteCounts, czLsmInfo, other, typeSize, valueAt, valuesAt, placeBy, valuePlace, entryValues, scalarValues, scalar, arrayValues, array, entryBy, entry, entries, ends, directory}
+use Rattle.lsm_format.specs.Open.{agreesWith, agrees, Walk, tiffHeader, join, chain, walk, agreement, layoutFor, describe, describeWalk, read, openFile, fileLimit}
 use Rattle.lsm_format.specs.Printout.{numbersText}
 use Rattle.printout_room.proofs.Lengths.{decimal-length}
 
@@ -111,23 +111,27 @@ place-refuses : (o : Order) (f : List ℕ) (size count place : ℕ) → Refusing
 unfolding valuePlace
 place-refuses o f size count place = place-by (leb (size * count) 4) o f place
 
+values-refuse : (o : Order) (f : List ℕ) (type count place : ℕ) → Refusing (entryValues o f type count place)
+unfolding entryValues
+values-refuse o f type count place = search (steps, place-refuses) depth 12
+
+value-refuses : (type : ℕ) (o : Order) (f : List ℕ) (p : ℕ) → Refusing (valueAt type o f p)
+unfolding valueAt
+value-refuses type o f p = search (steps, number-refuses)
+
 scalar-refuses : (o : Order) (f : List ℕ) (type count place : ℕ) → Refusing (scalar o f type count place)
-unfolding scalar scalarPlace
-scalar-refuses o f type count place = search (steps, place-refuses, number-refuses) depth 12
+unfolding scalar scalarValues
+scalar-refuses o f type count place = search (steps, values-refuse, value-refuses) depth 12
 
-element-refuses : (count type : ℕ) → Refusing (elementSize count type)
-element-refuses zero type = accepts 0
-element-refuses (suc n) type = search steps
-
-numbers-refuse : (n size : ℕ) (o : Order) (f : List ℕ) (p : ℕ) → Refusing (numbers n size o f p)
-unfolding numbers
-numbers-refuse zero size o f p = accepts []
-numbers-refuse (suc n) size o f p =
-    bind-refuses _ _ (number-refuses size o f p) (λ v. bind-refuses _ _ (numbers-refuse n size o f (p + size)) (λ vs. accepts (v ∷ vs)))
+each-refuses : (n type : ℕ) (o : Order) (f : List ℕ) (p : ℕ) → Refusing (valuesAt n type o f p)
+unfolding valuesAt
+each-refuses zero type o f p = accepts []
+each-refuses (suc n) type o f p =
+    bind-refuses _ _ (value-refuses type o f p) (λ v. bind-refuses _ _ (each-refuses n type o f (p + typeSize type)) (λ vs. accepts (v ∷ vs)))
 
 array-refuses : (o : Order) (f : List ℕ) (type count place : ℕ) → Refusing (array o f type count place)
-unfolding array arrayPlace
-array-refuses o f type count place = search (steps, place-refuses, element-refuses, numbers-refuse) depth 12
+unfolding array arrayValues
+array-refuses o f type count place = search (steps, values-refuse, each-refuses) depth 12
 
 entry-by : (t : Tag) (o : Order) (f : List ℕ) (type count place : ℕ) (d : Directory) → Refusing (entryBy t o f type count place d)
 entry-by (field t) o f type count place d = search (steps, scalar-refuses) depth 12
@@ -147,19 +151,18 @@ entries-refuse (suc n) o f base i d =
     bind-refuses _ _ (entry-refuses o f (base + 12 * i) d) (λ e. entries-refuse n o f base (i + 1) e)
 
 directory-refuses : (o : Order) (f : List ℕ) (place : ℕ) → Refusing (directory o f place)
-unfolding directory
+unfolding directory ends
 directory-refuses o f place = search (steps, number-refuses, entries-refuse) depth 12
 
 -- ---- the walk
 
-join-by : (b : Bool) (x : Option Directory) (w : Walk) (d : Directory) → Refusing (joinBy b x w d)
-join-by true x w d = search steps
-join-by false none w d = search steps
-join-by false (some p) w d = search steps
+agrees-with : (x : Option Directory) (d : Directory) → Refusing (agreesWith x d)
+agrees-with none d = search steps
+agrees-with (some p) d = search steps
 
 join-refuses : (w : Walk) (d : Directory) → Refusing (join w d)
-unfolding join
-join-refuses w d = join-by (d .reduced) (w .first) w d
+unfolding join agrees
+join-refuses w d = search (steps, agrees-with) depth 12
 
 chain-refuses : (n : ℕ) (b : Bool) (o : Order) (f : List ℕ) (place : ℕ) (w : Walk) → Refusing (chain n b o f place w)
 unfolding chain

@@ -1,8 +1,7 @@
--- `lsm_description::check_agreement` meets its contract: each answer opens the definition and rewrites by the tests passed, in its order:
--- width, height, channels, time, planes, strips. The names in an answer are the places in the code of these tests. The last test needs
--- `channels` above 0, which `at_least_one` ensures. Assumes nothing.
+-- The tests come in the order of `agreement`, so each return is told by the tests before it; by the name of what a test asks for, from the
+-- last one back to the first.
 use mathlib.Core.Bool.{_||_}
-use lib.Dec.{leb}
+use lib.Dec.{leb, eqb}
 use mathlib.Core.Path.{sym, _∙_}
 use borrow.Author.Tests.{eq-eqb, ne-eqb, le-leb, lt-leb, not-true, not-false}
 use Rattle.lsm_format.specs.Answer.{bind}
@@ -13,9 +12,6 @@ use Rattle.lsm_description.proofs.check_agreement.Statement.{statement}
 use Rattle.lsm_description.proofs.check_agreement.Tie as tie
 use Rattle.lsm_description.proofs.check_agreement.Reads as reads
 
-cast-at-least-one : tie.Need-cast-at-least-one
-cast-at-least-one c = search needs
-
 at-least-one-requires : tie.Need-at-least-one-requires
 at-least-one-requires c κs = search needs
 
@@ -25,9 +21,7 @@ returns c = λ o f. rw (ne-eqb _ _ (c .if1 .taken))
 
 returns-2 : tie.Need-returns-2
 unfolding agreement bind
-returns-2 c =
-    let width = c .before .before .before in
-    λ o f. rw (eq-eqb _ _ (width .if1 .left), ne-eqb _ _ (c .if2 .taken))
+returns-2 c = λ o f. rw (eq-eqb _ _ (c .before .before .before .if1 .left), ne-eqb _ _ (c .if2 .taken))
 
 cast-if3 : tie.Need-cast-if3
 cast-if3 c = search needs
@@ -37,17 +31,17 @@ unfolding agreement bind
 returns-3 c =
     let height = c .before .before in
     let width = height .before .before .before in
-    let channels = width .before .before .before .before in
-    λ o f. rw (eq-eqb _ _ (width .if1 .left), eq-eqb _ _ (height .if2 .left), ← channels .at-least-one .ensures .0, ne-eqb _ _ (c .if3 .taken))
+    let count = width .before .before .before .before in
+    λ o f. rw (eq-eqb _ _ (width .if1 .left), eq-eqb _ _ (height .if2 .left), ← count .at-least-one .ensures .0, ne-eqb _ _ (c .if3 .taken))
 
 returns-4 : tie.Need-returns-4
 unfolding agreement bind
 returns-4 c =
-    let count = c .before .before in
-    let height = count .before .before in
+    let channels = c .before .before in
+    let height = channels .before .before in
     let width = height .before .before .before in
-    let channels = width .before .before .before .before in
-    λ o f. rw (eq-eqb _ _ (width .if1 .left), eq-eqb _ _ (height .if2 .left), ← channels .at-least-one .ensures .0, eq-eqb _ _ (count .if3 .left), lt-leb _ _ (c .if4 .taken))
+    let count = width .before .before .before .before in
+    λ o f. rw (eq-eqb _ _ (width .if1 .left), eq-eqb _ _ (height .if2 .left), ← count .at-least-one .ensures .0, eq-eqb _ _ (channels .if3 .left), lt-leb _ _ (c .if4 .taken))
 
 is-interleaved-requires : tie.Need-is-interleaved-requires
 is-interleaved-requires c κs = search needs
@@ -55,63 +49,67 @@ is-interleaved-requires c κs = search needs
 returns-5 : tie.Need-returns-5
 unfolding agreement bind
 returns-5 c =
-    let time = c .before .before in
-    let count = time .before .before in
-    let height = count .before .before in
+    let asked = c .before in
+    let time = asked .before .before in
+    let channels = time .before .before in
+    let height = channels .before .before in
     let width = height .before .before .before in
-    let channels = width .before .before .before .before in
-    let start = channels .before .before in
-    λ o f. rw (eq-eqb _ _ (width .if1 .left), eq-eqb _ _ (height .if2 .left), ← channels .at-least-one .ensures .0, eq-eqb _ _ (count .if3 .left), le-leb _ _ (time .if4 .left), not-true (leb (channels .at-least-one .result) 1 || start .args .page .planar) (sym (c .before .is-interleaved .ensures) ∙ c .if5 .taken))
+    let count = width .before .before .before .before in
+    let page = count .before .args .page in
+    λ o f. rw (eq-eqb _ _ (width .if1 .left), eq-eqb _ _ (height .if2 .left), ← count .at-least-one .ensures .0, eq-eqb _ _ (channels .if3 .left), le-leb _ _ (time .if4 .left), not-true (leb (count .at-least-one .result) 1 || eqb (page .«planar_configuration») 2) (sym (asked .is-interleaved .ensures) ∙ c .if5 .taken))
 
 returns-6 : tie.Need-returns-6
 unfolding agreement bind
 returns-6 c =
     let planes = c .before .before in
     let asked = planes .before in
-    let time = asked .before in
-    let count = time .before .before in
-    let height = count .before .before in
+    let time = asked .before .before in
+    let channels = time .before .before in
+    let height = channels .before .before in
     let width = height .before .before .before in
-    let channels = width .before .before .before .before in
-    let start = channels .before .before in
-    λ o f. rw (eq-eqb _ _ (width .if1 .left), eq-eqb _ _ (height .if2 .left), ← channels .at-least-one .ensures .0, eq-eqb _ _ (count .if3 .left), le-leb _ _ (time .if4 .left), not-false (leb (channels .at-least-one .result) 1 || start .args .page .planar) (sym (asked .is-interleaved .ensures) ∙ planes .if5 .left), values-length, eq-eqb _ _ (c .if6 .taken))
+    let count = width .before .before .before .before in
+    let page = count .before .args .page in
+    λ o f. rw (eq-eqb _ _ (width .if1 .left), eq-eqb _ _ (height .if2 .left), ← count .at-least-one .ensures .0, eq-eqb _ _ (channels .if3 .left), le-leb _ _ (time .if4 .left), not-false (leb (count .at-least-one .result) 1 || eqb (page .«planar_configuration») 2) (sym (asked .is-interleaved .ensures) ∙ planes .if5 .left), values-length, eq-eqb _ _ (c .if6 .taken))
 
 rem-if7 : tie.Need-rem-if7
-rem-if7 c = search needs
+rem-if7 c =
+    let planes = c .before .before .before in
+    let time = planes .before .before .before in
+    let width = time .before .before .before .before .before .before .before in
+    search (needs, width .before .before .before .before .at-least-one .ensures .1)
 
 returns-7 : tie.Need-returns-7
 unfolding agreement bind
 returns-7 c =
-    let strips = c .before .before in
-    let planes = strips .before .before in
+    let some = c .before .before in
+    let planes = some .before .before in
     let asked = planes .before in
-    let time = asked .before in
-    let count = time .before .before in
-    let height = count .before .before in
+    let time = asked .before .before in
+    let channels = time .before .before in
+    let height = channels .before .before in
     let width = height .before .before .before in
-    let channels = width .before .before .before .before in
-    let start = channels .before .before in
-    λ o f. rw (eq-eqb _ _ (width .if1 .left), eq-eqb _ _ (height .if2 .left), ← channels .at-least-one .ensures .0, eq-eqb _ _ (count .if3 .left), le-leb _ _ (time .if4 .left), not-false (leb (channels .at-least-one .result) 1 || start .args .page .planar) (sym (asked .is-interleaved .ensures) ∙ planes .if5 .left), values-length, ne-eqb _ _ (strips .if6 .left), ne-eqb _ _ (c .if7 .taken))
+    let count = width .before .before .before .before in
+    let page = count .before .args .page in
+    λ o f. rw (eq-eqb _ _ (width .if1 .left), eq-eqb _ _ (height .if2 .left), ← count .at-least-one .ensures .0, eq-eqb _ _ (channels .if3 .left), le-leb _ _ (time .if4 .left), not-false (leb (count .at-least-one .result) 1 || eqb (page .«planar_configuration») 2) (sym (asked .is-interleaved .ensures) ∙ planes .if5 .left), values-length, ne-eqb _ _ (some .if6 .left), ne-eqb _ _ (c .if7 .taken))
 
 returns-8 : tie.Need-returns-8
 unfolding agreement bind
 returns-8 c =
-    let strips = c .before .before in
-    let planes = strips .before .before in
+    let some = c .before .before in
+    let planes = some .before .before in
     let asked = planes .before in
-    let time = asked .before in
-    let count = time .before .before in
-    let height = count .before .before in
+    let time = asked .before .before in
+    let channels = time .before .before in
+    let height = channels .before .before in
     let width = height .before .before .before in
-    let channels = width .before .before .before .before in
-    let start = channels .before .before in
-    λ o f. rw (eq-eqb _ _ (width .if1 .left), eq-eqb _ _ (height .if2 .left), ← channels .at-least-one .ensures .0, eq-eqb _ _ (count .if3 .left), le-leb _ _ (time .if4 .left), not-false (leb (channels .at-least-one .result) 1 || start .args .page .planar) (sym (asked .is-interleaved .ensures) ∙ planes .if5 .left), values-length, ne-eqb _ _ (strips .if6 .left), eq-eqb _ _ (c .if7 .left))
+    let count = width .before .before .before .before in
+    let page = count .before .args .page in
+    λ o f. rw (eq-eqb _ _ (width .if1 .left), eq-eqb _ _ (height .if2 .left), ← count .at-least-one .ensures .0, eq-eqb _ _ (channels .if3 .left), le-leb _ _ (time .if4 .left), not-false (leb (count .at-least-one .result) 1 || eqb (page .«planar_configuration») 2) (sym (asked .is-interleaved .ensures) ∙ planes .if5 .left), values-length, ne-eqb _ _ (some .if6 .left), eq-eqb _ _ (c .if7 .left))
 
 pub check-agreement-spec : {M : Type 1} → statement M
 check-agreement-spec =
     tie.close
     (tie.spec
-    cast-at-least-one
     at-least-one-requires
     returns
     returns-2

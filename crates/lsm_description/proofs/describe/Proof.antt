@@ -43,34 +43,30 @@ returns-2 c =
     let agreed = accepted .before .before in
     λ o f. rw (sym (agreed .check-agreement .ensures o f) ∙ ap checkOf (accepted .enum-told .given .1), sym (laid .layout-for .ensures) ∙ ap answerOf (c .before .r2 .given .1))
 
-cast-at-least-one : tie.Need-cast-at-least-one
-cast-at-least-one c = search needs
-
 at-least-one-requires : tie.Need-at-least-one-requires
 at-least-one-requires c κs = search needs
 
 at-least-one-requires-2 : tie.Need-at-least-one-requires-2
 at-least-one-requires-2 c κs = search needs
 
+cast-t19 : tie.Need-cast-t19
+cast-t19 c = search needs
+
 cast-t20 : tie.Need-cast-t20
 cast-t20 c = search needs
 
-cast-t21 : tie.Need-cast-t21
-cast-t21 c = search needs
-
-div-t19 : tie.Need-div-t19
-div-t19 c = search needs
+div-t18 : tie.Need-div-t18
+div-t18 c = search needs
 
 returns-3 : tie.Need-returns-3
 unfolding Open.describe bind
 returns-3 c =
     let depth = c .before .before .before in
-    let channels = depth .before .before in
-    let layout = channels .before .before .before in
-    let laid = layout .before .before in
-    let accepted = laid .before in
-    let agreed = accepted .before .before in
-    λ o f. rw (sym (agreed .check-agreement .ensures o f) ∙ ap checkOf (accepted .enum-told .given .1), sym (laid .layout-for .ensures) ∙ ap answerOf (layout .l .given .1), values-length, ← channels .at-least-one .ensures .0, ← depth .at-least-one2 .ensures .0)
+    let count = depth .before .before in
+    let laid = count .before .before in
+    let asked = laid .before .before in
+    let agreed = asked .before in
+    λ o f. rw (sym (agreed .before .before .check-agreement .ensures o f) ∙ ap checkOf (agreed .enum-told .given .1), sym (asked .layout-for .ensures) ∙ ap answerOf (laid .l .given .1), values-length, ← count .at-least-one .ensures .0, ← depth .at-least-one2 .ensures .0)
 
 pub describe-spec : {M : Type 1} → statement M
 describe-spec =
@@ -84,10 +80,9 @@ describe-spec =
     enum-known-l
     enum-known-r-2
     returns-2
-    cast-at-least-one
     at-least-one-requires
     at-least-one-requires-2
+    cast-t19
     cast-t20
-    cast-t21
-    div-t19
+    div-t18
     returns-3)

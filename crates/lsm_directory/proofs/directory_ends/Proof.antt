@@ -3,7 +3,7 @@ use native.Mathlib.Omega.{arith}
 use Rattle.lsm_format.specs.Answer.{bind}
 use Rattle.lsm_format.proofs.Numbers.{number-inside}
 use Rattle.lsm_bytes.specs.Code.{u16Of, u32Of}
-use Rattle.lsm_directory.specs.Pages.{directoryEnds}
+use Rattle.lsm_format.specs.Directory.{ends}
 use borrow.Author.Needs.{needs}
 use Rattle.lsm_directory.proofs.directory_ends.Statement.{statement}
 use Rattle.lsm_directory.proofs.directory_ends.Tie as tie
@@ -18,7 +18,7 @@ enum-told : tie.Need-enum-told
 enum-told c = search needs
 
 returns : tie.Need-returns
-unfolding directoryEnds bind
+unfolding ends bind
 returns c = (rw (sym (c .before .before .read-u16 .ensures) ∙ ap u16Of (c .enum-told .given .1)), tt)
 
 add-read-u32 : tie.Need-add-read-u32
@@ -47,7 +47,7 @@ enum-told-2 : tie.Need-enum-told-2
 enum-told-2 c = search needs
 
 returns-2 : tie.Need-returns-2
-unfolding directoryEnds bind
+unfolding ends bind
 returns-2 c =
     let r = c .before .before in
     let n = r .before .before in
@@ -60,7 +60,7 @@ cast-t11 : tie.Need-cast-t11
 cast-t11 c = search needs
 
 returns-3 : tie.Need-returns-3
-unfolding directoryEnds bind
+unfolding ends bind
 returns-3 c =
     let r = c .before .before .before in
     let n = r .before .before in

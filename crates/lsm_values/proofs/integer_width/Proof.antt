@@ -1,17 +1,17 @@
 -- `lsm_values::integer_width` meets its contract: for a code that an arm names, the definition computes. The rest is every other code,
 -- which is told from the named ones by the arms that it missed (`integer-low`, `integer-one`, `integer-high`). Assumes nothing.
 use mathlib.Core.Logic.{⊎-elim, inl, inr}
-use Rattle.lsm_format.specs.Directory.{integerSize}
+use Rattle.lsm_format.specs.Directory.{typeSize, integerSize}
 use Rattle.lsm_format.proofs.Directory.{integer-low, integer-high, integer-one}
 use Rattle.lsm_values.proofs.integer_width.Statement.{statement}
 use Rattle.lsm_values.proofs.integer_width.Tie as tie
 
 returns : tie.Need-returns
-unfolding integerSize
+unfolding integerSize typeSize
 returns c = ⊎-elim (λ e. rw e) (λ e. rw e) (c .match .keys2)
 
 returns-2 : tie.Need-returns-2
-unfolding integerSize
+unfolding integerSize typeSize
 returns-2 c = ⊎-elim (λ e. rw e) (λ w. ⊎-elim (λ e. rw e) (λ e. rw e) w) (c .match .keys3)
 
 returns-3 : tie.Need-returns-3
@@ -25,7 +25,7 @@ returns-4 c =
     integer-high _ (c .if2 .left) (λ e. r .0 .1 (inr e)) (λ e. r .1 (inr (inl e))) (λ e. r .1 (inr (inr e)))
 
 returns-5 : tie.Need-returns-5
-unfolding integerSize
+unfolding integerSize typeSize
 returns-5 c = rw (c .match .keys1)
 
 returns-6 : tie.Need-returns-6

@@ -81,7 +81,7 @@ returns-6 : tie.Need-returns-6
 returns-6 c =
     let v = c .before .before in
     let t = v .before .before .before in
-    scalar-nowhere _ _ _ _ _ _ (t .tiff-type-size .ensures) (v .before .before .if1 .left) (v .before .if2 .left) _
+    scalar-nowhere _ _ _ _ _ _ (t .tiff-type-size .ensures) (v .before .before .if1 .left) _
     (sym (v .value-place .ensures) ∙ ap placeOf (c .enum-told3 .given .1))
 
 pub read-scalar-spec : {M : Type 1} → statement M

@@ -1,6 +1,11 @@
+-- By the three ways a walk goes on: a reduced page leaves first page and pages as they are, a full one is the first or comes after it. The
+-- CZ entry is the same in all of them.
 use Rattle.lsm_reader.proofs.Walks.{one-more}
-use Rattle.lsm_directory.specs.Code.{directoryOf}
+use Rattle.lsm_directory.specs.Code.{directoryOf, firstMeant}
 use Rattle.lsm_format.specs.Open.{arraysOf}
+use mathlib.Core.List.{append-nil}
+use Rattle.lsm_format.proofs.Open.{stays}
+use mathlib.Core.Path.{sym, _∙_}
 use native.Mathlib.Omega.{arith}
 use borrow.Author.Needs.{needs}
 use Rattle.lsm_reader.proofs.chain.join.Statement.{statement}
@@ -9,11 +14,19 @@ use Rattle.lsm_reader.proofs.chain.join.Tie as tie
 first-entry-requires : tie.Need-first-entry-requires
 first-entry-requires c κs = search needs
 
+is-reduced-requires : tie.Need-is-reduced-requires
+is-reduced-requires c κs = search needs
+
 add-t9 : tie.Need-add-t9
 add-t9 c = search needs
 
 returns : tie.Need-returns
-returns c = (λ o f ps. rw (c .before .if1 .taken, c .before .before .first-entry .ensures), ((omega arith, omega arith), λ o f ps e. rw (c .before .if1 .taken) e))
+returns c =
+    let asked = c .before .before in
+    let entry = asked .before in
+    let w = entry .before .args .w in
+    let is = sym (asked .is-reduced .ensures) ∙ c .before .if1 .taken in
+    (λ o f ps. rw (is, stays (firstMeant o f (w .first)), entry .first-entry .ensures), ((omega arith, omega arith), λ o f ps e. rw (is, append-nil) e))
 
 enum-known-first : tie.Need-enum-known-first
 enum-known-first c = search needs
@@ -29,9 +42,12 @@ add-t11 c = search needs
 
 returns-2 : tie.Need-returns-2
 returns-2 c =
-    let r = c .before .before .before .before in
-    let a = r .before .before .args in
-    (λ o f ps. rw (r .if1 .left, c .before .before .enum-told .given .1, r .before .first-entry .ensures), ((omega arith, omega arith), λ o f ps e. rw (r .if1 .left) (one-more (a .w .pages) ps (arraysOf (directoryOf o f (a .d))) e)))
+    let full = c .before .before .before .before in
+    let asked = full .before in
+    let entry = asked .before in
+    let a = entry .before .args in
+    let is = sym (asked .is-reduced .ensures) ∙ full .if1 .left in
+    (λ o f ps. rw (is, c .before .before .enum-told .given .1, entry .first-entry .ensures), ((omega arith, omega arith), λ o f ps e. rw is (one-more (a .w .pages) ps (arraysOf (directoryOf o f (a .d))) e)))
 
 add-t13 : tie.Need-add-t13
 add-t13 c = search needs
@@ -41,15 +57,19 @@ add-t14 c = search needs
 
 returns-3 : tie.Need-returns-3
 returns-3 c =
-    let r = c .before .before .before .before .before in
-    let a = r .before .before .args in
-    (λ o f ps. rw (r .if1 .left, c .before .before .before .first .given .1, r .before .first-entry .ensures), ((omega arith, omega arith), λ o f ps e. rw (r .if1 .left) (one-more (a .w .pages) ps (arraysOf (directoryOf o f (a .d))) e)))
+    let full = c .before .before .before .before .before in
+    let asked = full .before in
+    let entry = asked .before in
+    let a = entry .before .args in
+    let is = sym (asked .is-reduced .ensures) ∙ full .if1 .left in
+    (λ o f ps. rw (is, c .before .before .before .first .given .1, entry .first-entry .ensures), ((omega arith, omega arith), λ o f ps e. rw is (one-more (a .w .pages) ps (arraysOf (directoryOf o f (a .d))) e)))
 
 pub join-spec : {M : Type 1} → statement M
 join-spec =
     tie.close
     (tie.spec
     first-entry-requires
+    is-reduced-requires
     add-t9
     returns
     enum-known-first

@@ -150,7 +150,7 @@ dirs-again c =
       omega (arith, b, j .1 .0 .0),
       omega (arith, j .1 .0 .0, j .1 .0 .1, x .inv .2),
       next-turn o f _ _ _ _ _ _ (x .inv .3) (c .before .before .before .before .before .before .before .before .before .before .before .before .before .before .before .before .before .before .if1 .left) _ _ e (l .d) (sym (l .inv .1) ∙ entries-done _ _ _ _ _ _ done)
-          (sym (c .before .before .before .before .before .before .before .before .before .before .agrees .ensures o f) ∙ ap checkOf (c .before .before .before .before .before .before .before .before .enum-told3 .given .1)) _ (λ ps. j .0 o f ps) _ _ _ (j .1 .0 .0) (j .1 .1 o f _ (x .inv .3 .counted))
+          (sym (c .before .before .before .before .before .before .before .before .before .before .agrees .ensures o f) ∙ ap checkOf (c .before .before .before .before .before .before .before .before .enum-told3 .given .1)) _ (λ ps. j .0 o f ps) _ _ _ (j .1 .0 .0) (j .1 .1 o f (x .inv .3 .pages) (x .inv .3 .counted))
           (search needs) (c .before .before .before .before .before .lay-page .ensures) (mark-moved _ (x .mark) (c .before .before .before .before .before .before .before .join .result .visited) _ (c .move-mark .ensures)),
     )
 
