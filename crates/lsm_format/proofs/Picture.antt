@@ -17,7 +17,7 @@ use Rattle.lsm_format.specs.Sizes.{Kind, pictureLimit, pictureBytes, unl
 use Rattle.lsm_format.specs.Rectangle.{Dims, Rect, Coordinate, noPicture, coordinates, within, rectangle}
 use Rattle.lsm_format.specs.Scenes.{pageOf}
 use Rattle.lsm_format.specs.Open.{Description}
-use Rattle.lsm_format.specs.Picture.{Picture, Strips, offsetOf, countOf, total, place, lies, inside, inTurn, span, bytes, picture, each, window, stripsPerPage, hasPage, stripsOn, channelStrips, sceneThere, coordinateThere, planeStrips}
+use Rattle.lsm_format.specs.Picture.{Picture, Strips, offsetOf, countOf, total, place, lies, inside, inTurn, span, bytes, picture, eachSample, window, stripsPerPage, hasPage, stripsOn, channelStrips, sceneThere, coordinateThere, planeStrips}
 use Rattle.lsm_format.proofs.Words.{word-fits, word-some}
 use Rattle.lsm_format.proofs.Accepting.{both-hold}
 
@@ -198,8 +198,8 @@ span-grid w (suc h) g =
 
 -- changed in place, sample after sample, a window is the window of the changed picture
 pub window-each : (φ : List ℕ → List ℕ) (p : Picture) (s : ℕ) (r : Rect) → Even p s r
-    → span 0 (r .h * r .w) (λ q. φ (bytes (held (window p r)) (q * s) s)) ≡ window (each φ p) r
-unfolding each window picture
+    → span 0 (r .h * r .w) (λ q. φ (bytes (held (window p r)) (q * s) s)) ≡ window (eachSample φ p) r
+unfolding eachSample window picture
 window-each φ p s r e =
     let z : r .x + 0 ≡ r .x = omega arith in
     let z′ : r .y + 0 ≡ r .y = omega arith in

@@ -15,7 +15,7 @@ use Rattle.lsm_format.specs.Sizes.{Kind, sampleSize, pictureLimit, pictu
 use Rattle.lsm_format.specs.Rectangle.{Rect, Coordinate, rectangle, isEmpty}
 use Rattle.lsm_format.specs.Scenes.{pages, pageOf}
 use Rattle.lsm_format.specs.Open.{Description}
-use Rattle.lsm_format.specs.Picture.{Picture, Strips, Samples, countOf, total, inside, inTurn, stored, picture, toLittle, each, window, hasPage, stripsOn, channelStrips, coordinateThere, planeStrips, planeFrom, channelPicture, samplesIn, wholePicture, plane, rowBytes, wholeStrips, rowsIn, wholeChannel, wholeChannels, wholePage, wholePages, wholeRows, windowEnd, rowStrips, windowStrips, regionBy, regionStrips, noStrips, filledStrips, regionFrom, region}
+use Rattle.lsm_format.specs.Picture.{Picture, Strips, Samples, countOf, total, inside, inTurn, stored, picture, toLittle, eachSample, window, hasPage, stripsOn, channelStrips, coordinateThere, planeStrips, planeFrom, channelPicture, samplesIn, wholePicture, plane, rowBytes, wholeStrips, rowsIn, wholeChannel, wholeChannels, wholePage, wholePages, wholeRows, windowEnd, rowStrips, windowStrips, stripsBy, regionStrips, noStrips, filledStrips, regionFrom, region}
 use Rattle.lsm_format.proofs.Picture.{held, Even, picture-length, window-length, window-at, bind-then, need-true, size-is, size-fits, rectangle-within, channel-page, turn-total, strips-nowhere, plane-accepted}
 use Rattle.lsm_format.proofs.Accepting.{both-hold}
 
@@ -147,7 +147,7 @@ module _ (d : Description) (t : List ℕ) (len : ℕ) (co : Coordinate) (r : Rec
         row = whole-rows d t w .fits;
       }))))
 
-  accepted-by : (s : Strips) (b : Bool) → wholeRows d t ≡ b → regionBy b d t len co r ≡ accepted s → RegionAccepted d t len co s r
+  accepted-by : (s : Strips) (b : Bool) → wholeRows d t ≡ b → stripsBy b d t len co r ≡ accepted s → RegionAccepted d t len co s r
   accepted-by s true w e = accepted-by-rows s w e
   accepted-by s false w e = accepted-by-plane s e
 
@@ -191,7 +191,7 @@ module _ (d : Description) (t : List ℕ) (len : ℕ) (co : Coordinate) (r : Rec
     tested-by (refused row) h w k tested = rw (part-size, h) (strips-nowhere d t len co size row e h)
 
     region-by : (b : Bool) → wholeRows d t ≡ b → co .c < d .dims .c → ((page : ℕ) → pageOf (d .layout) co ≡ some page → page < pages (d .layout))
-        → regionBy b d t len co r ≡ planeStrips d t len co
+        → stripsBy b d t len co r ≡ planeStrips d t len co
     region-by true w k tested = tested-by (channelStrips d (length t) co) refl w k tested
     region-by false w k tested = refl
 
@@ -202,7 +202,7 @@ module _ (d : Description) (t : List ℕ) (len : ℕ) (co : Coordinate) (r : Rec
     region-plane k tested = region-by (wholeRows d t) refl k tested
 
   -- an accepted picture's rectangles are accepted, whatever its page
-  inside-by : (s : Strips) (b : Bool) → planeStrips d t len co ≡ accepted s → regionBy b d t len co r ≡ accepted s
+  inside-by : (s : Strips) (b : Bool) → planeStrips d t len co ≡ accepted s → stripsBy b d t len co r ≡ accepted s
   inside-by s true e =
       let p = plane-accepted d t len co s e in
       judged-alike (pictureBytes (d .dims .x) (d .dims .y) (d .kind)) (p .size) s (p .summed) (p .channel) ∙ e
@@ -216,7 +216,7 @@ module _ (d : Description) (t : List ℕ) (len : ℕ) (co : Coordinate) (r : Rec
 
 -- every sample has the kind's bytes
 pub channel-even : (d : Description) (t f : List ℕ) (s : Strips) (r : Rect) → Even (channelPicture d t f s) (sampleSize (d .kind)) r
-unfolding channelPicture each
+unfolding channelPicture eachSample
 channel-even d t f s r i j li ui lj uj = by (d .order)
   where
     by : (o : Order) → length (toLittle o (picture (stored f t (s .first) (s .count)) (d .dims .x) (sampleSize (d .kind)) i j)) ≡ sampleSize (d .kind)

@@ -7,7 +7,7 @@ use lib.Dec.{leb, ltb}
 use lib.IntN.{ℤ, pos, negsuc}
 use lib.ListN.{length, take, drop}
 use Rattle.lsm_format.specs.Answer.{Result, accepted, refused, bind, need, outOfRange}
-use Rattle.lsm_format.specs.Ranges.{Ranges, none as nothing, at, both, over, inFile}
+use Rattle.lsm_format.specs.Ranges.{Ranges, nothing, at, both, over, inFile}
 use Rattle.lsm_format.specs.Numbers.{Order, partAt, i32At}
 use Rattle.lsm_format.specs.Lent.{lend, filled}
 use Rattle.lsm_format.specs.Utf8.{lossy}

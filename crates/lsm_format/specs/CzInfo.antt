@@ -7,7 +7,7 @@ use lib.Dec.{leb, eqb}
 use lib.IntN.{ℤ, pos, negsuc}
 use lib.ListN.{length}
 use Rattle.lsm_format.specs.Answer.{Result, accepted, bind, need, decode, unsupported}
-use Rattle.lsm_format.specs.Ranges.{Ranges, none as nothing, at, both, over, inFile}
+use Rattle.lsm_format.specs.Ranges.{Ranges, nothing, at, both, over, inFile}
 use Rattle.lsm_format.specs.Numbers.{Order, i32At, f64BitsAt}
 use Rattle.lsm_format.specs.Calibration.{Calibration, uncalibrated, calibration}
 

@@ -5,7 +5,7 @@ use mathlib.Core.Option.{Option, none, some}
 use mathlib.Core.List.{List, [], _∷_}
 use lib.Dec.{leb, ltb, eqb}
 use Rattle.lsm_format.specs.Answer.{Result, accepted, bind, need, given, decode}
-use Rattle.lsm_format.specs.Ranges.{Ranges, none as nothing, both, over, inFile}
+use Rattle.lsm_format.specs.Ranges.{Ranges, nothing, both, over, inFile}
 use Rattle.lsm_format.specs.Numbers.{Order, numberAt, u16At, u32At}
 
 -- ---- types

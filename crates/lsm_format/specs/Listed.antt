@@ -2,7 +2,7 @@
 use Prim.Native.Nat.{ℕ, zero, suc}
 use mathlib.Core.List.{List, [], _∷_}
 use lib.ListN.{length}
-use Rattle.lsm_format.specs.Ranges.{Ranges, none, at, both, over, inFile}
+use Rattle.lsm_format.specs.Ranges.{Ranges, nothing, at, both, over, inFile}
 use Rattle.lsm_format.specs.Sizes.{sampleSize}
 use Rattle.lsm_format.specs.Rectangle.{Rect, Coordinate}
 use Rattle.lsm_format.specs.Channels.{channelsRanges}
@@ -13,8 +13,8 @@ use Rattle.lsm_format.specs.Picture.{Strips, place, samplePlace, regionF
 
 -- "the in-file strips of full pages": the table has the offset and the count of each
 unfoldable pub stripsRanges : List ℕ → List ℕ → Ranges
-stripsRanges f [] = none
-stripsRanges f (offset ∷ []) = none
+stripsRanges f [] = nothing
+stripsRanges f (offset ∷ []) = nothing
 stripsRanges f (offset ∷ count ∷ words) = both (inFile f offset count) (stripsRanges f words)
 
 -- "in the channel block [..]", of every channel
@@ -30,7 +30,7 @@ listed f = both (openRanges f) (over (read f) (λ x. both (channelBlockRanges f 
 
 -- What is read at a, a + 1, .., a + n - 1.
 unfoldable pub spanRanges : ℕ → ℕ → (ℕ → Ranges) → Ranges
-spanRanges a zero r = none
+spanRanges a zero r = nothing
 spanRanges a (suc n) r = both (r a) (spanRanges (suc a) n r)
 
 -- A sample's bytes, each at its place in the file.

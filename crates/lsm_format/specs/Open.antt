@@ -6,7 +6,7 @@ use mathlib.Core.List.{List, [], _∷_, _++_}
 use lib.Dec.{leb, eqb}
 use lib.ListN.{length, getD}
 use Rattle.lsm_format.specs.Answer.{Result, accepted, refused, bind, need, given, parse, decode, unsupported, oversizedAllocation}
-use Rattle.lsm_format.specs.Ranges.{Ranges, none as nothing, both, over, inFile}
+use Rattle.lsm_format.specs.Ranges.{Ranges, nothing, both, over, inFile}
 use Rattle.lsm_format.specs.Numbers.{Order, little, big, u16At, u32At}
 use Rattle.lsm_format.specs.Sizes.{Kind, u8, u16, i16, f32}
 use Rattle.lsm_format.specs.Rectangle.{Dims}

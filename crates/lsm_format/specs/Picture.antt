@@ -83,8 +83,8 @@ toLittle little sample = sample
 toLittle big sample = reverse sample
 
 -- A picture with every sample changed.
-unfoldable pub each : (List ℕ → List ℕ) → Picture → Picture
-each change p row column = change (p row column)
+unfoldable pub eachSample : (List ℕ → List ℕ) → Picture → Picture
+eachSample change p row column = change (p row column)
 
 -- "Samples lie row by row": those of a rectangle of a picture.
 unfoldable pub window : Picture → Rect → List ℕ
@@ -146,7 +146,7 @@ pub record Samples : Type 0 where
 -- The picture of these strips, and a rectangle of it.
 unfoldable pub channelPicture : Description → List ℕ → List ℕ → Strips → Picture
 channelPicture d table f s =
-    each (toLittle (d .order)) (picture (stored f table (s .first) (s .count)) (d .dims .x) (sampleSize (d .kind)))
+    eachSample (toLittle (d .order)) (picture (stored f table (s .first) (s .count)) (d .dims .x) (sampleSize (d .kind)))
 
 unfoldable pub samplesIn : Description → List ℕ → List ℕ → Rect → Strips → Samples
 samplesIn d table f r s = record { rows = r .h; columns = r .w; bytes = window (channelPicture d table f s) r }
@@ -217,12 +217,12 @@ unfoldable pub windowStrips : Description → List ℕ → ℕ → Coordinate �
 windowStrips d table len co r = bind (pictureSize (r .w) (r .h) (d .kind)) (λ _. rowStrips d table len co r)
 
 -- "then, where every page's strips hold whole rows, [..]; otherwise all of plane's checks"
-abbrev pub regionBy : Bool → Description → List ℕ → ℕ → Coordinate → Rect → Result Strips
-regionBy true d table len co r = windowStrips d table len co r
-regionBy false d table len co r = planeStrips d table len co
+abbrev pub stripsBy : Bool → Description → List ℕ → ℕ → Coordinate → Rect → Result Strips
+stripsBy true d table len co r = windowStrips d table len co r
+stripsBy false d table len co r = planeStrips d table len co
 
 unfoldable pub regionStrips : Description → List ℕ → ℕ → Coordinate → Rect → Result Strips
-regionStrips d table len co r = regionBy (wholeRows d table) d table len co r
+regionStrips d table len co r = stripsBy (wholeRows d table) d table len co r
 
 -- "An in-bounds rectangle of width or height 0 is accepted empty with its shape": it is read from no strips.
 abbrev pub noStrips : Strips

@@ -11,23 +11,23 @@ use Rattle.lsm_format.specs.Answer.{Result, accepted, refused}
 
 -- Nothing; the count bytes from start; what two parts of a rule read.
 pub data Ranges : Type 0 where
-  none : Ranges
+  nothing : Ranges
   at : ℕ → ℕ → Ranges
   both : Ranges → Ranges → Ranges
 
 -- What is read after a step whose answer is m: nothing where it refuses.
 unfoldable pub over : {A : Type 0} → Result A → (A → Ranges) → Ranges
 over (accepted a) k = k a
-over (refused row) k = none
+over (refused row) k = nothing
 
 -- The count bytes from start where all of them are in the file, and otherwise none: a read past the end looks at no byte,
 -- only at the file's length.
 unfoldable pub inFile : List ℕ → ℕ → ℕ → Ranges
-inFile f start count = elim (leb (start + count) (length f)) [ true ↦ at start count | false ↦ none ]
+inFile f start count = elim (leb (start + count) (length f)) [ true ↦ at start count | false ↦ nothing ]
 
 -- The ranges as a list of starts and counts, in the order in which they were drawn up.
 unfoldable pub flat : Ranges → List (ℕ × ℕ)
-flat none = []
+flat nothing = []
 flat (at start count) = (start, count) ∷ []
 flat (both r q) = flat r ++ flat q
 
@@ -42,6 +42,6 @@ On f g start count = (p : ℕ) → (start ≤ p) × (p < start + count) → getD
 
 -- Two files agree on all the ranges.
 abbrev pub Agree : List ℕ → List ℕ → Ranges → Type 0
-Agree f g none = Unit {0}
+Agree f g nothing = Unit {0}
 Agree f g (at start count) = On f g start count
 Agree f g (both r q) = Agree f g r × Agree f g q

@@ -3,7 +3,7 @@ use Prim.Native.Nat.{ℕ, zero, suc, _+_, _*_, _≤_, _<_}
 use native.Mathlib.Omega.{arith}
 use mathlib.Core.Bool.{Bool, true, false}
 use mathlib.Core.Path.{_≡_, refl, sym, ap, _∙_}
-use mathlib.Core.Option.{Option, none as nothing, some}
+use mathlib.Core.Option.{Option, none, some}
 use mathlib.Core.List.{List}
 use lib.Dec.{leb, ltb}
 use lib.IntN.{ℤ, pos, negsuc}
@@ -97,8 +97,8 @@ module _ (f g : List ℕ) (len : length g ≡ length f) where
       ((next : ℕ) → Agree f g (recordRanges o f next channel) →
       (recordOf o g next channel ≡ recordOf o f next channel) × Agree f g (textRanges (kept (recordOf o f next channel)))) →
       (recordOf o g place (suc channel) ≡ recordOf o f place (suc channel)) × Agree f g (textRanges (kept (recordOf o f place (suc channel))))
-  next-by nothing o channel place e w a next =
-      let q : nameRecord o g place ≡ nothing = record-law o place w ∙ e in
+  next-by none o channel place e w a next =
+      let q : nameRecord o g place ≡ none = record-law o place w ∙ e in
       (names-end o g place channel q ∙ sym (names-end o f place channel e), rw (names-end o f place channel e) tt)
   next-by (some r) o channel place e w a next =
       let q : nameRecord o g place ≡ some r = record-law o place w ∙ e in
@@ -113,7 +113,7 @@ module _ (f g : List ℕ) (len : length g ≡ length f) where
 
   -- a name that is in the file
   text-law : (r : Option (ℕ × ℕ)) → ((s n : ℕ) → r ≡ some (s, n) → s + n ≤ length f) → Agree f g (textRanges r) → textIn g r ≡ textIn f r
-  text-law nothing i a = refl
+  text-law none i a = refl
   text-law (some r) i a = ap (λ (bs : List ℕ). some (lossy (trimmed bs))) (take-law (r .0) (r .1) a (i (r .0) (r .1) refl))
 
   name-law : (o : Order) (block : ℕ) (z : ℤ) (channel : ℕ) → Agree f g (nameRanges o f block z channel) → name o g block z channel ≡ name o f block z channel
@@ -136,7 +136,7 @@ module _ (f g : List ℕ) (len : length g ≡ length f) where
   channel-law : (o : Order) (block : Option ℕ) (channel : ℕ) → Agree f g (channelRanges o f block channel) →
       channelIn o g block channel ≡ channelIn o f block channel
   unfolding channelIn channelRanges
-  channel-law o nothing channel a = refl
+  channel-law o none channel a = refl
   channel-law o (some block) channel a = rw (pointers-law o block (a .0)) (by-law o block channel (pointers o f block) (a .1))
 
   memory-law : (o : Order) (block : Option ℕ) (channels channel : ℕ) (lent : List ℕ) → Agree f g (channelRanges o f block channel) →

@@ -19,12 +19,12 @@ use Rattle.lsm_format.specs.Rectangle.{Dims, Rect, Coordinate, noPicture, coord
 use Rattle.lsm_format.specs.Scenes.{pageOf}
 use Rattle.lsm_format.specs.Lent.{lend}
 use Rattle.lsm_format.specs.Open.{Description}
-use Rattle.lsm_format.specs.Picture.{Strips, Samples, offsetOf, countOf, total, stored, lies, inside, inTurn, span, bytes, samplePlace, picture, each, toLittle, hasPage, stripsOn, channelStrips, sceneThere, coordinateThere, planeStrips, planeFrom, channelPicture, samplesIn, wholePicture, plane, rowBytes, wholeRows, windowEnd, rowStrips, windowStrips, regionBy, regionStrips, filledStrips, regionFrom, region, into}
+use Rattle.lsm_format.specs.Picture.{Strips, Samples, offsetOf, countOf, total, stored, lies, inside, inTurn, span, bytes, samplePlace, picture, eachSample, toLittle, hasPage, stripsOn, channelStrips, sceneThere, coordinateThere, planeStrips, planeFrom, channelPicture, samplesIn, wholePicture, plane, rowBytes, wholeRows, windowEnd, rowStrips, windowStrips, stripsBy, regionStrips, filledStrips, regionFrom, region, into}
 use Rattle.lsm_format.proofs.Lent.{lend-room, lend-short}
 use Rattle.lsm_format.proofs.Scenes.{page-some}
 use Rattle.lsm_format.proofs.Picture.{held, bytes-add, bytes-moved, bytes-length, bytes-at, bytes-run, place-in, place-past, inside-head, coordinate-channel, rectangle-within, channel-page, channel-room}
 use Rattle.lsm_format.proofs.Region.{RegionAccepted, accepted-by-plane, region-accepted, samples-at, samples-length, size-samples, empty-then, plane-from-then, region-from-then, plane-then, region-then, rectangle-accepted}
-use Rattle.lsm_overwrite.specs.Exact.{namedStrips, joined, joinedStrips, sampleOf, pictureSample, There, Exact, Accepted, Inside, EachRectangle, EachPlane, EveryInside}
+use Rattle.lsm_overwrite.specs.Exact.{namedStrips, stripBytes, joinedStrips, sampleOf, pictureSample, There, Exact, Accepted, Inside, EachRectangle, EachPlane, EveryInside}
 
 -- ---- the joined strips
 
@@ -43,8 +43,8 @@ joined-rest f t i n =
     (λ m u. rw (zero-add, zero-add) (ap (held f) (rw z at (place-past t i (suc n) m (omega arith)))))
 
 -- the bytes by their places are the strips' bytes, joined
-pub joined-is : (f t : List ℕ) (i n : ℕ) → inside t (length f) i n ≡ true → bytes (stored f t i n) 0 (total t i n) ≡ joined f t i n
-unfolding joined total bytes span
+pub joined-is : (f t : List ℕ) (i n : ℕ) → inside t (length f) i n ≡ true → bytes (stored f t i n) 0 (total t i n) ≡ stripBytes f t i n
+unfolding stripBytes total bytes span
 joined-is f t i zero w = refl
 joined-is f t i (suc n) w =
     let z : suc n - 1 ≡ n = omega arith in
@@ -52,18 +52,18 @@ joined-is f t i (suc n) w =
     bytes-add (stored f t i (suc n)) 0 (countOf t i) (total t (i + 1) n)
     ∙ ap₂ (λ (a b : List ℕ). a ++ b) (joined-head f t i n (h .0)) (joined-rest f t i n ∙ joined-is f t (i + 1) n (rw z at (h .1)))
 
-joined-length : (f t : List ℕ) (i n : ℕ) → inside t (length f) i n ≡ true → length (joined f t i n) ≡ total t i n
+joined-length : (f t : List ℕ) (i n : ℕ) → inside t (length f) i n ≡ true → length (stripBytes f t i n) ≡ total t i n
 joined-length f t i n w = ap length (sym (joined-is f t i n w)) ∙ bytes-length (stored f t i n) 0 (total t i n)
 
-joined-byte : (f t : List ℕ) (i n k : ℕ) → inside t (length f) i n ≡ true → k < total t i n → stored f t i n k ≡ getD (joined f t i n) k 0
+joined-byte : (f t : List ℕ) (i n k : ℕ) → inside t (length f) i n ≡ true → k < total t i n → stored f t i n k ≡ getD (stripBytes f t i n) k 0
 joined-byte f t i n k w h =
     ap (stored f t i n) (sym (zero-add k)) ∙ sym (bytes-at (stored f t i n) 0 (total t i n) k h) ∙ ap (λ (l : List ℕ). getD l k 0) (joined-is f t i n w)
 
 -- bytes that are all in the strips
 joined-part : (f t : List ℕ) (i n at s : ℕ) → inside t (length f) i n ≡ true → at + s ≤ total t i n
-    → bytes (stored f t i n) at s ≡ take s (drop at (joined f t i n))
+    → bytes (stored f t i n) at s ≡ take s (drop at (stripBytes f t i n))
 joined-part f t i n at s w h =
-    bytes-run (stored f t i n) at s (joined f t i n) at (λ b l. joined-byte f t i n (at + b) w (omega arith)) (rw (joined-length f t i n w) h)
+    bytes-run (stored f t i n) at s (stripBytes f t i n) at (λ b l. joined-byte f t i n (at + b) w (omega arith)) (rw (joined-length f t i n w) h)
 
 -- each of the strips lies in the file
 inside-each : (t : List ℕ) (len n i k : ℕ) → inside t len i n ≡ true → k < n → offsetOf t (i + k) + countOf t (i + k) ≤ len
@@ -102,9 +102,9 @@ strips-named d words co s e =
 -- A rectangle that has samples, of strips that are accepted for it.
 module _ (d : Description) (t f : List ℕ) (co : Coordinate) (s : Strips) (r : Rect) (y : RegionAccepted d t (length f) co s r) (i j : ℕ) (hi : i < r .h)
     (hj : j < r .w) where
-  named : joined f t (s .first) (s .count) ≡ joinedStrips d t f co
+  named : stripBytes f t (s .first) (s .count) ≡ joinedStrips d t f co
   unfolding joinedStrips
-  named = ap (λ (k : Strips). joined f t (k .first) (k .count)) (strips-named d (length t) co s (y .channel))
+  named = ap (λ (k : Strips). stripBytes f t (k .first) (k .count)) (strips-named d (length t) co s (y .channel))
 
   sample-there : co .c < d .dims .c → There d t f co (r .y + i) (r .x + j)
   sample-there h =
@@ -117,7 +117,7 @@ module _ (d : Description) (t f : List ℕ) (co : Coordinate) (s : Strips) (r : 
       }
 
   sample-same : channelPicture d t f s (r .y + i) (r .x + j) ≡ pictureSample d t f co (r .y + i) (r .x + j)
-  unfolding channelPicture each picture pictureSample
+  unfolding channelPicture eachSample picture pictureSample
   sample-same =
       let at : ℕ = samplePlace (d .dims .x) (sampleSize (d .kind)) (r .y + i) (r .x + j) in
       ap (toLittle (d .order))
@@ -225,7 +225,7 @@ module _ (d : Description) (t : List ℕ) (len : ℕ) (co : Coordinate) where
       lower-bind _ _ (channel-lower d (length t) co)
       (λ s. lower-bind _ _ (turn-lower t len (s .first) (s .count) size) (λ _. tt)))
 
-  region-strips-lower : (r : Rect) (b : Bool) → Lower (regionBy b d t len co r)
+  region-strips-lower : (r : Rect) (b : Bool) → Lower (stripsBy b d t len co r)
   unfolding windowStrips rowStrips Lower
   region-strips-lower r true =
       lower-bind _ _ (size-lower (r .w) (r .h) (d .kind))

@@ -13,7 +13,7 @@ use Rattle.lsm_format.specs.Answer.{accepted}
 use Rattle.lsm_format.specs.Ranges.{Ranges, On, Agree}
 use Rattle.lsm_format.specs.Rectangle.{Rect, Coordinate}
 use Rattle.lsm_format.specs.Open.{Description}
-use Rattle.lsm_format.specs.Picture.{Strips, offsetOf, countOf, total, place, stored, lies, inside, span, bytes, picture, toLittle, each, window, channelPicture, samplesIn, wholePicture, plane, windowEnd, regionFrom, region}
+use Rattle.lsm_format.specs.Picture.{Strips, offsetOf, countOf, total, place, stored, lies, inside, span, bytes, picture, toLittle, eachSample, window, channelPicture, samplesIn, wholePicture, plane, windowEnd, regionFrom, region}
 use Rattle.lsm_format.specs.Listed.{stripsRanges, spanRanges, sampleRanges, windowRanges, regionRanges}
 use Rattle.lsm_format.proofs.Accepting.{accepting-self, both-hold}
 use Rattle.lsm_format.proofs.Open.{double}
@@ -40,7 +40,7 @@ module _ (f g : List ℕ) where
   -- the samples of a rectangle, by their places
   samples-law : (d : Description) (table rest : List ℕ) (r : Rect) (s : Strips) → Has table rest (s .first) (s .count) →
       Agree f g (windowRanges d table r s) → samplesIn d (table ++ rest) g r s ≡ samplesIn d table f r s
-  unfolding samplesIn window windowRanges sampleRanges channelPicture each picture bytes stored
+  unfolding samplesIn window windowRanges sampleRanges channelPicture eachSample picture bytes stored
   samples-law d table rest r s h w =
       ap (λ (bs : List ℕ). record { rows = r .h; columns = r .w; bytes = bs })
       (span-law _ _ _ _ _ (λ row.

@@ -14,7 +14,7 @@ use Rattle.lsm_format.specs.Answer.{accepted, need, decode}
 use Rattle.lsm_format.specs.Rectangle.{Rect, Coordinate, noPicture, coordinates, isEmpty}
 use Rattle.lsm_format.specs.Scenes.{pages, pageOf}
 use Rattle.lsm_format.specs.Open.{Description}
-use Rattle.lsm_format.specs.Picture.{Strips, offsetOf, countOf, total, place, inside, inTurn, stripsPerPage, hasPage, stripsOn, channelStrips, coordinateThere, planeStrips, planeFrom, wholePicture, rowBytes, wholeStrips, rowsIn, wholeChannel, wholeChannels, wholePages, wholeRows, windowEnd, rowStrips, windowStrips, regionBy, regionStrips, filledStrips, regionFrom}
+use Rattle.lsm_format.specs.Picture.{Strips, offsetOf, countOf, total, place, inside, inTurn, stripsPerPage, hasPage, stripsOn, channelStrips, coordinateThere, planeStrips, planeFrom, wholePicture, rowBytes, wholeStrips, rowsIn, wholeChannel, wholeChannels, wholePages, wholeRows, windowEnd, rowStrips, windowStrips, stripsBy, regionStrips, filledStrips, regionFrom}
 use Rattle.lsm_format.proofs.Scenes.{page-some}
 use Rattle.lsm_format.proofs.Accepting.{Accepting, accepting-bind, accepting-then, accepting-need, accepting-given, accepting-map, accepting-told, both-hold}
 use Rattle.lsm_format.proofs.Opened.{Fits}
@@ -160,7 +160,7 @@ module _ (d : Description) (table rest : List ℕ) (fits : Fits d table) where
         bind-accepting _ _ channel-strips-own channel-strips-has (λ s h.
         bind-law _ (turn-own table rest decode decode len (s .count) (s .first) size h) (λ _. refl)))
 
-    region-by-own : (b : Bool) (r : Rect) → regionBy b d (table ++ rest) len co r ≡ regionBy b d table len co r
+    region-by-own : (b : Bool) (r : Rect) → stripsBy b d (table ++ rest) len co r ≡ stripsBy b d table len co r
     unfolding windowStrips rowStrips
     region-by-own true r =
         bind-law _ refl (λ _.

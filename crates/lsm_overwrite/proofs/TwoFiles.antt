@@ -10,7 +10,7 @@ use lib.Dec.{leb}
 use lib.ListN.{length, getD}
 use borrow.Author.Tests.{le-leb, leb-true, leb-false}
 use Rattle.lsm_format.specs.Answer.{Result, accepted, refused, bind}
-use Rattle.lsm_format.specs.Ranges.{Ranges, none, at, both, over, inFile, flat, Inside, On, Agree}
+use Rattle.lsm_format.specs.Ranges.{Ranges, nothing, at, both, over, inFile, flat, Inside, On, Agree}
 use Rattle.lsm_format.specs.Numbers.{Order, partAt, numberAt, numberRanges, i32At}
 use Rattle.lsm_format.proofs.Accepting.{Accepting}
 use Rattle.lsm_format.proofs.Numbers.{bytesNext, bytesFrom, part-bytes, part-past, part-there, number-past}
@@ -52,7 +52,7 @@ bind-accepting P (refused row) e p h = rw e
 
 -- a file agrees with itself
 pub agree-self : (f : List ℕ) (r : Ranges) → Agree f f r
-agree-self f none = tt
+agree-self f nothing = tt
 agree-self f (at start count) = λ p i. refl
 agree-self f (both r q) = (agree-self f r, agree-self f q)
 
@@ -60,7 +60,7 @@ module _ (f g : List ℕ) where
   -- files that agree at every listed place agree on the ranges
   pub agree : (r : Ranges) → ((p : ℕ) → Inside p (flat r) → getD g p 0 ≡ getD f p 0) → Agree f g r
   unfolding flat
-  agree none h = tt
+  agree nothing h = tt
   agree (at start count) h = λ p i. h p (inl i)
   agree (both r q) h =
       (agree r (λ p i. h p (inside-left p (flat r) (flat q) i)), agree q (λ p i. h p (inside-right p (flat r) (flat q) i)))
@@ -122,7 +122,7 @@ module _ (f g : List ℕ) where
     pub part-law : (s n p m : ℕ) → On f g s n → (s ≤ p) × (p + m ≤ s + n) → partAt g p m ≡ partAt f p m
     part-law s n p m h i = in-file-by (leb (p + m) (length f)) p m refl (λ _. on-part s n p m h i)
 
-    -- a part whose own range is listed: past the end there is none, and the length alone decides
+    -- a part whose own range is listed: past the end there is nothing, and the length alone decides
     pub part-listed : (p m : ℕ) → Agree f g (inFile f p m) → partAt g p m ≡ partAt f p m
     part-listed p m a = in-file-by (leb (p + m) (length f)) p m refl (λ there. rw (in-file-at f p m there) at a)
 

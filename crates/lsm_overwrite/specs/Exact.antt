@@ -21,13 +21,13 @@ abbrev pub namedStrips : Description → Coordinate → Strips
 namedStrips d co = stripsOn d (pageNumber (d .layout) co) (co .c)
 
 -- n strips from strip i on, joined: the bytes of one after those of the other.
-unfoldable pub joined : List ℕ → List ℕ → ℕ → ℕ → List ℕ
-joined f table i zero = []
-joined f table i (suc n) = take (countOf table i) (drop (offsetOf table i) f) ++ joined f table (i + 1) n
+unfoldable pub stripBytes : List ℕ → List ℕ → ℕ → ℕ → List ℕ
+stripBytes f table i zero = []
+stripBytes f table i (suc n) = take (countOf table i) (drop (offsetOf table i) f) ++ stripBytes f table (i + 1) n
 
 -- "the picture meant is always the channel's joined strips"
 unfoldable pub joinedStrips : Description → List ℕ → List ℕ → Coordinate → List ℕ
-joinedStrips d table f co = joined f table (namedStrips d co .first) (namedStrips d co .count)
+joinedStrips d table f co = stripBytes f table (namedStrips d co .first) (namedStrips d co .count)
 
 -- "with the sample at row, column stored at (row × width + column) × sample size": of bytes that are so many samples wide, of size s each
 abbrev pub sampleOf : List ℕ → ℕ → ℕ → ℕ → ℕ → List ℕ

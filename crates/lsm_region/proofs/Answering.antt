@@ -12,7 +12,7 @@ use Rattle.lsm_format.specs.Numbers.{Order, little, big}
 use Rattle.lsm_format.specs.Open.{Description}
 use Rattle.lsm_format.specs.Rectangle.{Rect, Coordinate, isEmpty}
 use Rattle.lsm_format.specs.Sizes.{Kind, u8, u16, i16, f32, sampleSize, pictureBytes}
-use Rattle.lsm_format.specs.Picture.{Strips, Samples, stored, inside, span, bytes, picture, each, toLittle, window, channelPicture, samplesIn, rowBytes, into, wholePicture, planeFrom, plane, noStrips, regionFrom, region}
+use Rattle.lsm_format.specs.Picture.{Strips, Samples, stored, inside, span, bytes, picture, eachSample, toLittle, window, channelPicture, samplesIn, rowBytes, into, wholePicture, planeFrom, plane, noStrips, regionFrom, region}
 use Rattle.lsm_format.proofs.Lent.{lend-room, lend-short, filled-room, filled-short}
 use Rattle.lsm_format.proofs.Picture.{held, picture-length, window-rows, window-cong, window-each, plane-accepted, coordinate-channel, rectangle-within, channel-room}
 use Rattle.lsm_format.proofs.Region.{size-rows, end-inside, region-accepted, empty-then, not-empty, samples-length, plane-from-then, region-from-then}
@@ -90,12 +90,12 @@ module _ (d : Description) (t f : List ℕ) (s : Strips) (r : Rect) (l : List �
       ∙ sym (window-rows (stored f t (s .first) (s .count)) (d .dims .x) (sampleSize (d .kind)) r)
 
   pub from-little : d .order ≡ little → l ≡ window (channelPicture d t f s) r
-  unfolding channelPicture each
+  unfolding channelPicture eachSample
   from-little o = rw o gathered
 
   -- a sample of one byte has no order
   pub from-one : sampleSize (d .kind) ≡ 1 → l ≡ window (channelPicture d t f s) r
-  unfolding channelPicture each
+  unfolding channelPicture eachSample
   from-one o =
       gathered
       ∙ window-cong (picture (stored f t (s .first) (s .count)) (d .dims .x) (sampleSize (d .kind))) _ r

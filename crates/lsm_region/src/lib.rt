@@ -108,6 +108,6 @@ pub fn region(
     let co = Coordinate { scene, t, c, z };
     match region_from(d, table, buf.len(), co, rect) {
         Found::Strips(strips) => deliver(buf, d, table, strips, rect, out),
-        Found::Refused(r) => PictureAnswer::Refused(r),
+        Found::Refused(unfit) => PictureAnswer::Refused(unfit),
     }
 }

@@ -20,7 +20,7 @@ use Rattle.lsm_format.specs.CzInfo.{czInfo, header, extents, voxels, channelBlo
 use Rattle.lsm_format.specs.Channels.{channelsRanges, channelRanges}
 use Rattle.lsm_format.specs.Directory.{directory, ends, entries, entry, scalar, scalarValues, array, arrayValues, entryValues, valueAt, valuesAt, valuePlace, typeSize, integerSize, entryRanges, entriesRanges, directoryRanges}
 use Rattle.lsm_format.specs.Open.{openFile, openMemory, read, tiffHeader, walk, chain, join, agrees, describeWalk, agreement, layoutFor, describe, chainRanges, walkRanges, openRanges}
-use Rattle.lsm_format.specs.Picture.{total, place, stored, inside, span, bytes, picture, each, window, channelStrips, sceneThere, coordinateThere, planeStrips, inTurn, channelPicture, samplesIn, plane, planeFrom, wholeStrips, rowsIn, wholeChannel, wholeChannels, wholePages, wholeRows, rowStrips, windowStrips, regionStrips, regionFrom}
+use Rattle.lsm_format.specs.Picture.{total, place, stored, inside, span, bytes, picture, eachSample, window, channelStrips, sceneThere, coordinateThere, planeStrips, inTurn, channelPicture, samplesIn, plane, planeFrom, wholeStrips, rowsIn, wholeChannel, wholeChannels, wholePages, wholeRows, rowStrips, windowStrips, regionStrips, regionFrom}
 use Rattle.lsm_format.specs.Listed.{stripsRanges, listed, spanRanges, sampleRanges, windowRanges, regionRanges, listedFor}
 use Rattle.lsm_overwrite.specs.Blind.{Overwritten, Held, Blind, BlindFor}
 use Rattle.lsm_overwrite.proofs.Blind.{blind, blind-rectangle, overwrite}
@@ -108,7 +108,7 @@ held-eight = record { lent = 0 ∷ 0 ∷ []; opened = G-opened; gave = refl }
 
 -- the samples of plane tell G from G with another first sample
 differ : Blind G G-eight → ⊥
-unfolding held held-eight openMemory filled plane planeFrom planeStrips inTurn total samplesIn channelPicture each picture stored place span bytes window sceneThere coordinateThere coordinates pictureSize unlimitedSize channelStrips pageOf inside openFile lend read describeWalk agreement layoutFor describe czInfo extents voxels channelBlock shots layout scenes pagesExpected word tiffHeader walk chain join agrees directory ends entries entry scalar scalarValues array arrayValues entryValues valueAt valuesAt valuePlace typeSize integerSize header i32At signed32 numberAt partAt bind
+unfolding held held-eight openMemory filled plane planeFrom planeStrips inTurn total samplesIn channelPicture eachSample picture stored place span bytes window sceneThere coordinateThere coordinates pictureSize unlimitedSize channelStrips pageOf inside openFile lend read describeWalk agreement layoutFor describe czInfo extents voxels channelBlock shots layout scenes pagesExpected word tiffHeader walk chain join agrees directory ends entries entry scalar scalarValues array arrayValues entryValues valueAt valuesAt valuePlace typeSize integerSize header i32At signed32 numberAt partAt bind
 differ b =
     let e : _≡_ {A = List ℕ} (8 ∷ 9 ∷ []) (7 ∷ 9 ∷ []) = b .planeLeaves held held-eight (coordinate 0 0 0 0) (0 ∷ 0 ∷ []) in
     let n : _≡_ {A = ℕ} 8 7 = cc in

@@ -13,7 +13,7 @@ use Rattle.lsm_format.specs.Lent.{lend}
 use Rattle.lsm_format.specs.CzInfo.{czInfo, header, extents, voxels, channelBlock, shots}
 use Rattle.lsm_format.specs.Directory.{directory, ends, entries, entry, scalar, scalarValues, array, arrayValues, entryValues, valueAt, valuesAt, valuePlace, typeSize, integerSize}
 use Rattle.lsm_format.specs.Open.{openFile, read, tiffHeader, walk, chain, join, agrees, describeWalk, agreement, layoutFor, describe}
-use Rattle.lsm_format.specs.Picture.{sceneThere, coordinateThere, plane, planeFrom, planeStrips, inTurn, channelStrips, inside, total, samplesIn, channelPicture, window, span, picture, bytes, stored, place, each as eachSample, region, regionFrom, regionStrips, wholeRows, wholePages, wholeChannels, wholeChannel, wholeStrips, rowsIn, rowStrips, windowStrips}
+use Rattle.lsm_format.specs.Picture.{sceneThere, coordinateThere, plane, planeFrom, planeStrips, inTurn, channelStrips, inside, total, samplesIn, channelPicture, window, span, picture, bytes, stored, place, eachSample, region, regionFrom, regionStrips, wholeRows, wholePages, wholeChannels, wholeChannel, wholeStrips, rowsIn, rowStrips, windowStrips}
 use Rattle.lsm_format.specs.Utf8.{lossy, lossyBy, piece}
 use Rattle.lsm_format.specs.Calibration.{figure, tensAbove, tensBelow}
 use Rattle.lsm_format.specs.Channels.{channelIn}

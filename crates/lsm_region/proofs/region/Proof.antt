@@ -15,8 +15,8 @@ enum-known-strips c = search needs
 deliver-requires : tie.Need-deliver-requires
 deliver-requires c κs = ready-part _ _ _ _ _ _ (sym (c .before .before .before .before .region-from .ensures) ∙ ap foundOf (c .before .before .strips .given .1))
 
-enum-known-r : tie.Need-enum-known-r
-enum-known-r c = search needs
+enum-known-unfit : tie.Need-enum-known-unfit
+enum-known-unfit c = search needs
 
 same-length : tie.Need-same-length
 same-length c = search needs
@@ -27,8 +27,8 @@ returns c =
     pictured-as (region-fit _ _ _ _ _ _ (sym (p .before .before .region-from .ensures) ∙ ap foundOf (p .strips .given .1))) (c .before .before .deliver .ensures)
 
 returns-2 : tie.Need-returns-2
-returns-2 c = pictured-refused _ _ _ (region-unfit _ _ _ _ _ _ (sym (c .before .before .before .region-from .ensures) ∙ ap foundOf (c .before .r .given .1)))
+returns-2 c = pictured-refused _ _ _ (region-unfit _ _ _ _ _ _ (sym (c .before .before .before .region-from .ensures) ∙ ap foundOf (c .before .unfit .given .1)))
 
 pub region-spec : {M : Type 1} → statement M
 region-spec =
-    tie.close (tie.spec region-from-requires enum-known-strips deliver-requires enum-known-r same-length returns returns-2)
+    tie.close (tie.spec region-from-requires enum-known-strips deliver-requires enum-known-unfit same-length returns returns-2)
