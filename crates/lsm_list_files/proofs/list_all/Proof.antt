@@ -1,4 +1,5 @@
--- `lsm_list_files::list_all` meets its contract. The measure is what is left. Assumes nothing.
+-- `lsm_list_files::list_all` meets its contract. The loop's invariant: the place is no further than the end. `next` goes on by a byte at
+-- least, so the measure is what is left, and where the loop ends the place is the end. Assumes nothing.
 use Prim.Native.Nat.{_≤_, _-_}
 use lib.ListN.{length}
 use borrow.Author.Needs.{needs}

@@ -1,4 +1,5 @@
--- `lsm_replay::line_at` meets its contract. Assumes nothing.
+-- `lsm_replay::line_at` meets its contract: `row_at` ensures that the next line begins after this one, within the text, and that the bytes
+-- it counts are in the array. Assumes nothing.
 use native.Mathlib.Omega.{arith}
 use borrow.Author.Needs.{needs}
 use Rattle.lsm_replay.proofs.line_at.Statement.{statement}

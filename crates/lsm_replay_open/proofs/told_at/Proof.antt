@@ -1,4 +1,5 @@
--- `lsm_replay_open::told_at` meets its contract. Assumes nothing.
+-- `lsm_replay_open::told_at` meets its contract: `line_at` ensures that the next line begins after this one, within the text, and that the
+-- numbers and bytes it counts are in the arrays. Assumes nothing.
 use native.Mathlib.Omega.{arith}
 use borrow.Author.Needs.{needs}
 use Rattle.lsm_replay_open.proofs.told_at.Statement.{statement}

@@ -1,4 +1,6 @@
--- `lsm_replay_pictures::compare` meets its contract: a line takes a byte at least. Assumes nothing.
+-- `lsm_replay_pictures::compare` meets its contract. The loop's invariant: no more lines than bytes passed were counted, and no more
+-- planes or agreements than lines. A line takes a byte at least (`line_at`), so the counts fit, and the measure is what is left of the
+-- text. Assumes nothing.
 use Prim.Native.Nat.{_-_, _≤_}
 use native.Mathlib.Omega.{arith}
 use lib.ListN.{length}

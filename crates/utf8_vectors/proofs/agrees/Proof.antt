@@ -1,4 +1,5 @@
--- `utf8_vectors::agrees` meets its contract. Assumes nothing.
+-- `utf8_vectors::agrees` meets its contract: where decoding accepts, the first `n` bytes of `out` are the text (`told-length`), and
+-- `check::same` compares them with what is said. A refusal answers `false`, which owes nothing. Assumes nothing.
 use Prim.Native.Nat.{ℕ}
 use native.Mathlib.Omega.{arith}
 use mathlib.Core.Path.{_≡_, sym, _∙_}

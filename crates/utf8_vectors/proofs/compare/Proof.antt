@@ -1,4 +1,5 @@
--- `utf8_vectors::compare` meets its contract: a line takes a byte at least. Assumes nothing.
+-- `utf8_vectors::compare` meets its contract. The loop's invariant: no more vectors than bytes passed were counted, and no more
+-- differences than vectors. A line takes a byte at least, so the counts fit, and the measure is what is left of the text. Assumes nothing.
 use Prim.Native.Nat.{_-_, _≤_}
 use borrow.Author.Needs.{needs}
 use lib.ListN.{length}

@@ -1,4 +1,6 @@
--- `utf8_vectors::line_at` meets its contract. Assumes nothing.
+-- `utf8_vectors::line_at` meets its contract: a line that isn't of the form ends at the text's end, which is after `at`. For any other the
+-- weight lies in the last answer: both lists of bytes and the two separators, each of which is in the text (`holds`), end after one
+-- another. Assumes nothing.
 use native.Mathlib.Omega.{arith}
 use mathlib.Core.Path.{sym}
 use borrow.Author.Tests.{not-false}

@@ -1,4 +1,6 @@
--- `lsm_replay::answer::agrees` meets its contract: each number before i is the same. Assumes nothing.
+-- `lsm_replay::answer::agrees` meets its contract. The loop's invariant: each number before `i` is the same in both. What is owed says
+-- something of `true` alone, so every early answer, which is `false`, owes a contradiction; the tests before the loop keep both reads
+-- inside their arrays. Assumes nothing.
 use Prim.Native.Nat.{ℕ, _+_, _-_, _≤_, _<_}
 use native.Mathlib.Omega.{arith}
 use mathlib.Core.Path.{_≡_}

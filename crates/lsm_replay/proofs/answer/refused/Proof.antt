@@ -1,4 +1,5 @@
--- `lsm_replay::answer::refused` meets its contract. Assumes nothing.
+-- `lsm_replay::answer::refused` meets its contract. The loop's invariant: the answer has `i` numbers, and `i` is at most five. So `with`
+-- has room for one more, and adds it. Assumes nothing.
 use Prim.Native.Nat.{_-_, _≤_}
 use native.Mathlib.Omega.{arith}
 use mathlib.Core.Path.{_≡_}

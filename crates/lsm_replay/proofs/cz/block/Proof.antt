@@ -1,4 +1,5 @@
--- `lsm_replay::cz::block` meets its contract. Assumes nothing.
+-- `lsm_replay::cz::block` meets its contract: with fewer than three numbers the answer is `false`, which owes nothing. Past that test the
+-- three reads of what is asked lie in the array, which has 20. Assumes nothing.
 use Prim.Native.Nat.{ℕ}
 use native.Mathlib.Omega.{arith}
 use mathlib.Core.Path.{_≡_}

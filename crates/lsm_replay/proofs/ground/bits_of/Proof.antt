@@ -1,4 +1,5 @@
--- `lsm_replay::ground::bits_of` meets its contract. Assumes nothing.
+-- `lsm_replay::ground::bits_of` meets its contract: a negative i32 with 2^32 added is a natural number below 2^32 (`raised`, `below`). The
+-- weight lies in following it as a whole number through i32 and i64 (`toZ-ofZ`). Assumes nothing.
 use native.Mathlib.Omega.{arith}
 use Prim.Native.Nat.{_-_}
 use lib.IntN.{pos, natAbs}

@@ -1,4 +1,6 @@
--- `lsm_replay::ground::of_bits` meets its contract. Assumes nothing.
+-- `lsm_replay::ground::of_bits` meets its contract: below 2^31 the number is itself. From there on 2^32 is taken off in i64, where the
+-- difference has room, and it is followed as a whole number, negative, through i64 and then i32 (`less-than-all`, `toZ-ofZ`). Assumes
+-- nothing.
 use native.Mathlib.Omega.{arith}
 use mathlib.Core.Path.{ap}
 use mir.ValLaws.{toZ-pos, toZ-ofZ}

@@ -1,4 +1,5 @@
--- `lsm_replay::voxels::letters` meets its contract. Assumes nothing.
+-- `lsm_replay::voxels::letters` meets its contract. The loop's invariant: at most eight letters, and no more than the figure has, were
+-- taken, and without one the number is 0. The test in the loop keeps the next product and sum in 64 bits. Assumes nothing.
 use Prim.Native.Nat.{_-_, _≤_}
 use native.Mathlib.Omega.{arith}
 use mathlib.Core.Path.{_≡_, refl}

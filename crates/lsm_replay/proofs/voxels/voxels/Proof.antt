@@ -1,4 +1,5 @@
--- `lsm_replay::voxels::voxels` meets its contract. Assumes nothing.
+-- `lsm_replay::voxels::voxels` meets its contract: with fewer than three numbers the answer is `false`, which owes nothing; past that test
+-- the three reads lie in the array. Assumes nothing.
 use Prim.Native.Nat.{ℕ}
 use native.Mathlib.Omega.{arith}
 use mathlib.Core.Path.{_≡_}

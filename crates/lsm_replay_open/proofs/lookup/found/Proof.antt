@@ -1,4 +1,5 @@
--- `lsm_replay_open::lookup::found` meets its contract. Assumes nothing.
+-- `lsm_replay_open::lookup::found` meets its contract: with fewer than seven numbers the answer is `false`, which owes nothing. Past that
+-- test the numbers may be parted at the seventh. Assumes nothing.
 use Prim.Native.Nat.{ℕ}
 use native.Mathlib.Omega.{arith}
 use mathlib.Core.Path.{_≡_}

@@ -1,4 +1,5 @@
--- `lsm_replay_open::lookup::lookup` meets its contract. Assumes nothing.
+-- `lsm_replay_open::lookup::lookup` meets its contract: with fewer than two numbers the answer is `false`, which owes nothing. Past both
+-- tests the numbers may be parted at the second, and the room asked for is in the memory at hand. Assumes nothing.
 use Prim.Native.Nat.{ℕ}
 use native.Mathlib.Omega.{arith}
 use mathlib.Core.Path.{_≡_}

@@ -1,4 +1,5 @@
--- `lsm_replay_open::opening::opened` meets its contract. Assumes nothing.
+-- `lsm_replay_open::opening::opened` meets its contract: what is owed says something of `true` alone, and past the two tests it holds. The
+-- same tests are what the five parts of `said` and `table` need, which are bounded by 3, 20 and the table's words. Assumes nothing.
 use Prim.Native.Nat.{ℕ}
 use native.Mathlib.Omega.{arith}
 use mathlib.Core.Path.{_≡_}

@@ -1,4 +1,5 @@
--- `lsm_replay_open::opening::opening` meets its contract. Assumes nothing.
+-- `lsm_replay_open::opening::opening` meets its contract: without a number the answer is `false`, which owes nothing. Past both tests the
+-- room asked for is in the table at hand. Assumes nothing.
 use Prim.Native.Nat.{ℕ}
 use native.Mathlib.Omega.{arith}
 use mathlib.Core.Path.{_≡_}

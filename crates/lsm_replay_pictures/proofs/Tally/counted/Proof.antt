@@ -1,4 +1,5 @@
--- `lsm_replay_pictures::Tally::counted` meets its contract. Assumes nothing.
+-- `lsm_replay_pictures::Tally::counted` meets its contract: one line more, and at most one plane and one agreement more (`one`). The sums
+-- fit since the lines' does, and the two others are no larger. Assumes nothing.
 use native.Mathlib.Omega.{arith}
 use mathlib.Core.Path.{refl}
 use borrow.Author.Needs.{needs}

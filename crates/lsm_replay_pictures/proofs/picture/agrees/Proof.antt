@@ -1,4 +1,5 @@
--- `lsm_replay_pictures::picture::agrees` meets its contract. Assumes nothing.
+-- `lsm_replay_pictures::picture::agrees` meets its contract: without a number the answer is `false`, which owes nothing. Past the tests
+-- the room and the table's words are within the arrays that are lent in part. Assumes nothing.
 use Prim.Native.Nat.{ℕ}
 use native.Mathlib.Omega.{arith}
 use mathlib.Core.Path.{_≡_}

@@ -1,4 +1,5 @@
--- `lsm_replay_pictures::picture::answered` meets its contract. Assumes nothing.
+-- `lsm_replay_pictures::picture::answered` meets its contract, by the letter: a plane's line has four numbers at least, a rectangle's
+-- eight, and any other letter answers `false`, which owes nothing. Assumes nothing.
 use Prim.Native.Nat.{ℕ}
 use native.Mathlib.Omega.{arith}
 use mathlib.Core.Path.{_≡_}

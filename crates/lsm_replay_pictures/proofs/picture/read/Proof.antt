@@ -1,4 +1,5 @@
--- `lsm_replay_pictures::picture::read` meets its contract. Assumes nothing.
+-- `lsm_replay_pictures::picture::read` meets its contract. The weight lies in the last answer: the numbers are four and the rest,
+-- `same_then_kept` ensures that the rest are as many as the picture's bytes, and that these are within `out`. Assumes nothing.
 use Prim.Native.Nat.{ℕ}
 use native.Mathlib.Omega.{arith}
 use mathlib.Core.Path.{_≡_}

@@ -1,4 +1,5 @@
--- `lsm_replay_pictures::picture::refused` meets its contract. Assumes nothing.
+-- `lsm_replay_pictures::picture::refused` meets its contract: where all bytes are as they were, `same_front` ensures as many numbers as
+-- the row counts, and `numbers` that this is the row's length. Assumes nothing.
 use Prim.Native.Nat.{ℕ}
 use native.Mathlib.Omega.{arith}
 use mathlib.Core.Path.{_≡_}
