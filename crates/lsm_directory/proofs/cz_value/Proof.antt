@@ -1,3 +1,5 @@
+-- By the bytes that the entry declares: up to four are refused, and above that the offset is read. Their number fits the machine, since no
+-- type has more than eight bytes.
 use Prim.Native.Nat.{_*_, _^_}
 use Rattle.lsm_bytes.specs.Code.{u32Of}
 use Rattle.lsm_format.proofs.Directory.{type-size-small, cz-small, cz-no-offset, cz-is}

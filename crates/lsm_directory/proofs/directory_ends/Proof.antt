@@ -1,3 +1,5 @@
+-- The count is read, then the next pointer: a refusal of either is the rule's. That the pointer's place fits the machine follows from the
+-- count's being in the file.
 use mathlib.Core.Path.{sym, ap, _∙_}
 use native.Mathlib.Omega.{arith}
 use Rattle.lsm_format.specs.Answer.{bind}

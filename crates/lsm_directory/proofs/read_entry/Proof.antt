@@ -1,3 +1,5 @@
+-- Tag, type and count are read in turn, and the first that is past the end is the rule's refusal; what is left is `entryBy` of the tag. The
+-- places fit the machine because the tag was in the file.
 use Rattle.lsm_bytes.specs.Code.{u16Of, u32Of}
 use Rattle.lsm_format.proofs.Numbers.{number-inside}
 use Rattle.lsm_format.proofs.Directory.{entry-no-tag, entry-no-type, entry-no-count, entry-is}

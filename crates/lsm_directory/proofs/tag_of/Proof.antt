@@ -1,3 +1,4 @@
+-- Each arm has its tag's number, and the last arm none of them.
 use borrow.Author.Tests.{ne-eqb}
 use Rattle.lsm_directory.proofs.tag_of.Statement.{statement}
 use Rattle.lsm_directory.proofs.tag_of.Tie as tie

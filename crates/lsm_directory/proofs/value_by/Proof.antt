@@ -1,3 +1,4 @@
+-- By the tag: a scalar, one of the strip arrays, the CZ entry, or nothing. What the value's reader answers is what the rule reads.
 use Rattle.lsm_values.specs.Code.{scalarOf, arrayOf}
 use Rattle.lsm_format.specs.Answer.{bind}
 use mathlib.Core.Path.{sym, ap, _∙_}

@@ -1,3 +1,5 @@
+-- Two words a strip: after each turn the words of one strip more are the page's. Every write is inside, since the part lent has two words for
+-- each strip.
 use denote.Ref.{now}
 use Prim.Native.Nat.{_*_, _-_, _≤_}
 use native.Mathlib.Omega.{arith}
@@ -11,6 +13,7 @@ use Rattle.lsm_reader.proofs.Walks.{strip-more, strips-all}
 use Rattle.lsm_reader.proofs.chain.fill_strips.Statement.{statement}
 use Rattle.lsm_reader.proofs.chain.fill_strips.Tie as tie
 
+-- the words of the strips before i are there
 abbrev Inv-loop : tie.InvT-loop
 Inv-loop buf offsets counts e out₀ i₀ out i =
     (i ≤ offsets .count) × (length out ≡ 2 * offsets .count) × (take (2 * i) out ≡ take (2 * i) (stripWords (valuesOf (orderOf e) buf offsets) (valuesOf (orderOf e) buf counts)))

@@ -1,3 +1,5 @@
+-- The checks are those of `describeWalk` in its order, one return for each that refuses. A name below is what is known by then: the first
+-- full page, that it is not compressed (`plain`), the kind of its samples, the CZ entry, the block.
 use mathlib.Core.Path.{sym, ap, _∙_}
 use denote.Ref.{now}
 use borrow.Author.Tests.{eq-eqb, ne-eqb}
@@ -36,7 +38,11 @@ enum-known-r c = search needs
 
 returns-3 : tie.Need-returns-3
 unfolding Open.describeWalk bind
-returns-3 c = λ ps n. rw (c .before .before .before .before .before .before .before .first .given .1, eq-eqb _ _ (c .before .before .before .before .if1 .left), sym (c .before .before .before .map-dtype .ensures) ∙ ap sampleOf (c .before .r .given .1))
+returns-3 c =
+    let sampled = c .before .before .before in
+    let plain = sampled .before in
+    let page = plain .before .before .before in
+    λ ps n. rw (page .first .given .1, eq-eqb _ _ (plain .if1 .left), sym (sampled .map-dtype .ensures) ∙ ap sampleOf (c .before .r .given .1))
 
 enum-known-entry : tie.Need-enum-known-entry
 enum-known-entry c = search needs
@@ -46,7 +52,12 @@ enum-told-2 c = search needs
 
 returns-4 : tie.Need-returns-4
 unfolding Open.describeWalk bind
-returns-4 c = λ ps n. rw (c .before .before .before .before .before .before .before .before .before .first .given .1, eq-eqb _ _ (c .before .before .before .before .before .before .if1 .left), sym (c .before .before .before .before .before .map-dtype .ensures) ∙ ap sampleOf (c .before .before .before .k .given .1), c .enum-told2 .given .1)
+returns-4 c =
+    let kind = c .before .before .before in
+    let sampled = kind .before .before in
+    let plain = sampled .before in
+    let page = plain .before .before .before in
+    λ ps n. rw (page .first .given .1, eq-eqb _ _ (plain .if1 .left), sym (sampled .map-dtype .ensures) ∙ ap sampleOf (kind .k .given .1), c .enum-told2 .given .1)
 
 cast-t21 : tie.Need-cast-t21
 cast-t21 c = search needs
@@ -66,13 +77,26 @@ enum-known-r-2 c = search needs
 returns-5 : tie.Need-returns-5
 unfolding Open.describeWalk bind
 returns-5 c =
-    let a = c .before .before .before .before .before .before .before .before .before .before .before .before .before .before .before .before .before .before .args in
-    λ ps n. rw (c .before .before .before .before .before .before .before .before .before .before .before .before .before .before .before .first .given .1, eq-eqb _ _ (c .before .before .before .before .before .before .before .before .before .before .before .before .if1 .left), sym (c .before .before .before .before .before .before .before .before .before .before .before .map-dtype .ensures) ∙ ap sampleOf (c .before .before .before .before .before .before .before .before .before .k .given .1), c .before .before .before .before .before .before .entry .given .1, sym (c .before .before .before .before .parse .ensures) ∙ ap czOf (c .before .before .info .given .1), ← n) (c .describe .ensures (orderOf (a .e)) (now (a .buf)))
+    let block = c .before .before in
+    let parsed = block .before .before in
+    let cz = parsed .before .before in
+    let kind = cz .before .before .before in
+    let sampled = kind .before .before in
+    let plain = sampled .before in
+    let page = plain .before .before .before in
+    let a = page .before .before .before .args in
+    λ ps n. rw (page .first .given .1, eq-eqb _ _ (plain .if1 .left), sym (sampled .map-dtype .ensures) ∙ ap sampleOf (kind .k .given .1), cz .entry .given .1, sym (parsed .parse .ensures) ∙ ap czOf (block .info .given .1), ← n) (c .describe .ensures (orderOf (a .e)) (now (a .buf)))
 
 returns-6 : tie.Need-returns-6
 unfolding Open.describeWalk bind
 returns-6 c =
-    λ ps n. rw (c .before .before .before .before .before .before .before .before .before .before .before .before .before .before .first .given .1, eq-eqb _ _ (c .before .before .before .before .before .before .before .before .before .before .before .if1 .left), sym (c .before .before .before .before .before .before .before .before .before .before .map-dtype .ensures) ∙ ap sampleOf (c .before .before .before .before .before .before .before .before .k .given .1), c .before .before .before .before .before .entry .given .1, sym (c .before .before .before .parse .ensures) ∙ ap czOf (c .before .r2 .given .1))
+    let parsed = c .before .before .before in
+    let cz = parsed .before .before in
+    let kind = cz .before .before .before in
+    let sampled = kind .before .before in
+    let plain = sampled .before in
+    let page = plain .before .before .before in
+    λ ps n. rw (page .first .given .1, eq-eqb _ _ (plain .if1 .left), sym (sampled .map-dtype .ensures) ∙ ap sampleOf (kind .k .given .1), cz .entry .given .1, sym (parsed .parse .ensures) ∙ ap czOf (c .before .r2 .given .1))
 
 pub describe-walk-spec : {M : Type 1} → statement M
 describe-walk-spec =

@@ -1,3 +1,4 @@
+-- Pages times strips, then twice that: where either product passes 64 bits, the number of words does.
 use native.Mathlib.Nat.{mul-zero}
 use native.Mathlib.Omega.{arith}
 use Rattle.lsm_format.proofs.Words.{word-some, word-none, told-value, told-overflow, product-stays}
@@ -26,7 +27,10 @@ enum-told-2 : tie.Need-enum-told-2
 enum-told-2 c = search needs
 
 returns-2 : tie.Need-returns-2
-returns-2 c = rw (c .before .before .before .before .before .first .given .1) (said-large _ (product-stays _ 2 (omega arith) (word-none _ (told-overflow _ (c .before .before .checked-mul .ensures) (c .enum-told2 .given .1)))))
+returns-2 c =
+    let product = c .before .before in
+    let page = product .before .before .before in
+    rw (page .first .given .1) (said-large _ (product-stays _ 2 (omega arith) (word-none _ (told-overflow _ (product .checked-mul .ensures) (c .enum-told2 .given .1)))))
 
 checked-mul-requires-2 : tie.Need-checked-mul-requires-2
 checked-mul-requires-2 c κs = search needs
@@ -39,14 +43,22 @@ enum-told-3 c = search needs
 
 returns-3 : tie.Need-returns-3
 returns-3 c =
-    let s = word-some _ _ (told-value _ (c .before .before .before .before .before .before .before .checked-mul .ensures) (c .before .before .before .before .before .strips .given .1)) in
-    let t = word-some _ _ (told-value _ (c .before .before .before .checked-mul2 .ensures) (c .before .words .given .1)) in
-    rw (c .before .before .before .before .before .before .before .before .before .before .first .given .1, ← s .0) (said-small _ _ (t .0) (t .1))
+    let doubled = c .before .before .before in
+    let strips = doubled .before .before in
+    let product = strips .before .before in
+    let page = product .before .before .before in
+    let s = word-some _ _ (told-value _ (product .checked-mul .ensures) (strips .strips .given .1)) in
+    let t = word-some _ _ (told-value _ (doubled .checked-mul2 .ensures) (c .before .words .given .1)) in
+    rw (page .first .given .1, ← s .0) (said-small _ _ (t .0) (t .1))
 
 returns-4 : tie.Need-returns-4
 returns-4 c =
-    let s = word-some _ _ (told-value _ (c .before .before .before .before .before .before .checked-mul .ensures) (c .before .before .before .before .strips .given .1)) in
-    rw (c .before .before .before .before .before .before .before .before .before .first .given .1, ← s .0) (said-large _ (word-none _ (told-overflow _ (c .before .before .checked-mul2 .ensures) (c .enum-told3 .given .1))))
+    let doubled = c .before .before in
+    let strips = doubled .before .before in
+    let product = strips .before .before in
+    let page = product .before .before .before in
+    let s = word-some _ _ (told-value _ (product .checked-mul .ensures) (strips .strips .given .1)) in
+    rw (page .first .given .1, ← s .0) (said-large _ (word-none _ (told-overflow _ (doubled .checked-mul2 .ensures) (c .enum-told3 .given .1))))
 
 pub table-words-spec : {M : Type 1} → statement M
 table-words-spec =
