@@ -41,14 +41,14 @@ returns-2 c = rw (le-leb _ _ (c .before .before .before .before .before .before 
 
 returns-3 : tie.Need-returns-3
 unfolding tiffHeader bind
-returns-3 c = rw (le-leb _ _ (c .before .before .before .before .before .before .before .before .before .before .before .if1 .left), sym (c .before .before .before .before .before .before .before .before .order-mark .ensures) ∙ ap headerOf (c .before .before .before .before .before .before .e .given .1), sym (c .before .before .before .before .read-u16 .ensures) ∙ ap u16Of (c .before .before .magic .given .1), ne-eqb _ _ (c .if2 .taken))
+returns-3 c = rw (le-leb _ _ (c .before .before .before .before .before .before .before .before .before .before .before .if1 .left), sym (c .before .before .before .before .before .before .before .before .order-mark .ensures) ∙ ap headerOf (c .before .before .before .before .before .before .e .given .1), sym (c .before .before .before .before .read-u16 .ensures) ∙ ap u16Of (c .before .before .magic .given .1), ne-eqb _ 42 (c .if2 .taken))
 
 enum-known-r : tie.Need-enum-known-r
 enum-known-r c = search needs
 
 returns-4 : tie.Need-returns-4
 unfolding tiffHeader bind
-returns-4 c = rw (le-leb _ _ (c .before .before .before .before .before .before .before .before .before .before .before .if1 .left), sym (c .before .before .before .before .before .before .before .before .order-mark .ensures) ∙ ap headerOf (c .before .before .before .before .before .before .e .given .1), sym (c .before .before .before .before .read-u16 .ensures) ∙ ap u16Of (c .before .before .magic .given .1), eq-eqb _ _ (c .if2 .left))
+returns-4 c = rw (le-leb _ _ (c .before .before .before .before .before .before .before .before .before .before .before .if1 .left), sym (c .before .before .before .before .before .before .before .before .order-mark .ensures) ∙ ap headerOf (c .before .before .before .before .before .before .e .given .1), sym (c .before .before .before .before .read-u16 .ensures) ∙ ap u16Of (c .before .before .magic .given .1), eq-eqb _ 42 (c .if2 .left))
 
 returns-5 : tie.Need-returns-5
 unfolding tiffHeader bind
