@@ -53,7 +53,7 @@ returns-3 c =
     let order = number .before .before in
     let mark = order .before .before in
     let long = mark .before .before .before in
-    rw (le-leb _ _ (long .if1 .left), sym (mark .order-mark .ensures) ∙ ap headerOf (order .e .given .1), sym (number .read-u16 .ensures) ∙ ap u16Of (value .magic .given .1), ne-eqb _ _ (c .if2 .taken))
+    rw (le-leb _ _ (long .if1 .left), sym (mark .order-mark .ensures) ∙ ap headerOf (order .e .given .1), sym (number .read-u16 .ensures) ∙ ap u16Of (value .magic .given .1), ne-eqb _ 42 (c .if2 .taken))
 
 enum-known-r : tie.Need-enum-known-r
 enum-known-r c = search needs
@@ -66,7 +66,7 @@ returns-4 c =
     let order = number .before .before in
     let mark = order .before .before in
     let long = mark .before .before .before in
-    rw (le-leb _ _ (long .if1 .left), sym (mark .order-mark .ensures) ∙ ap headerOf (order .e .given .1), sym (number .read-u16 .ensures) ∙ ap u16Of (value .magic .given .1), eq-eqb _ _ (c .if2 .left))
+    rw (le-leb _ _ (long .if1 .left), sym (mark .order-mark .ensures) ∙ ap headerOf (order .e .given .1), sym (number .read-u16 .ensures) ∙ ap u16Of (value .magic .given .1), eq-eqb _ 42 (c .if2 .left))
 
 returns-5 : tie.Need-returns-5
 unfolding tiffHeader bind
