@@ -112,7 +112,7 @@ isReduced v = eqb (v % 2) 1 || eqb (v / 4 % 2) 1
 abbrev pub reduced : Directory → Bool
 reduced d = isReduced (d .scalars newSubfileType)
 
--- PlanarConfiguration counts "only as being 2 or not".
+-- PlanarConfiguration counts only as being 2 or not.
 abbrev pub planar : Directory → Bool
 planar d = eqb (d .scalars planarConfiguration) 2
 
