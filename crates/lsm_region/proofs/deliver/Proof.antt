@@ -1,4 +1,5 @@
--- `lsm_region::deliver` meets its contract. Assumes nothing.
+-- `lsm_region::deliver` meets its contract: too little room, no samples, or samples filled in. It needs the rectangle's size within 64 bits;
+-- what makes it ready to be copied is handed on to `fill`. Assumes nothing.
 use borrow.Author.Needs.{needs}
 use Rattle.lsm_region.proofs.deliver.Statement.{statement}
 use Rattle.lsm_region.proofs.deliver.Tie as tie
@@ -12,12 +13,13 @@ use Rattle.lsm_format.specs.Sizes.{pictureBytes}
 use Rattle.lsm_format.proofs.Sizes.{sampleSize-pos}
 use Rattle.lsm_region.proofs.Answering.{given-short, given-read, given-none}
 
+-- what the function starts with, seen from the sample's bytes
+abbrev start : tie.After-size-bytes → tie.Start
+start c = c .before .before .before .before .before
+
 size-is : (c : tie.After-size-bytes)
-    → c .before .before .before .before .before .args .rect .w * c .before .before .before .before .before .args .rect .h * c .size-bytes .result
-    ≡ pictureBytes (c .before .before .before .before .before .args .rect .w) (c .before .before .before .before .before .args .rect .h) (kindOf (c .before .before .before .before .before .args .d .dtype))
-size-is c =
-    let a = c .before .before .before .before .before .args in
-    ap (λ (k : ℕ). a .rect .w * a .rect .h * k) (c .size-bytes .ensures)
+    → start c .args .rect .w * start c .args .rect .h * c .size-bytes .result ≡ pictureBytes (start c .args .rect .w) (start c .args .rect .h) (kindOf (start c .args .d .dtype))
+size-is c = ap (λ (k : ℕ). start c .args .rect .w * start c .args .rect .h * k) (c .size-bytes .ensures)
 
 mul-size : tie.Need-mul-size
 mul-size c =
@@ -28,12 +30,12 @@ size-bytes-requires : tie.Need-size-bytes-requires
 size-bytes-requires c κs = search needs
 
 mul-size-2 : tie.Need-mul-size-2
-mul-size-2 c = omega (arith, size-is c, c .before .before .before .before .before .pre .size)
+mul-size-2 c = omega (arith, size-is c, start c .pre .size)
 
 returns : tie.Need-returns
 returns c =
     let b = c .before in
-    given-short _ _ _ _ _ _ _ (size-is b) (omega (arith, size-is b, b .before .before .before .before .before .pre .size)) (c .if1 .taken)
+    given-short _ _ _ _ _ _ _ (size-is b) (omega (arith, size-is b, start b .pre .size)) (c .if1 .taken)
 
 returns-2 : tie.Need-returns-2
 returns-2 c = given-none _ _ _ _ _ _ _ (size-is (c .before .before)) (c .if2 .taken)
@@ -48,7 +50,7 @@ fill-requires : tie.Need-fill-requires
 fill-requires c κs =
     let b = c .before .before .before in
     let l = length-take-le _ _ (c .before .before .if1 .left) in
-    (b .before .before .before .before .before .pre, (l ∙ size-is b, rw l (omega (arith, c .before .if2 .left))))
+    (start b .pre, (l ∙ size-is b, rw l (omega (arith, c .before .if2 .left))))
 
 same-length : tie.Need-same-length
 same-length c = search needs

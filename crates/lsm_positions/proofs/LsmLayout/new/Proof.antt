@@ -1,3 +1,5 @@
+-- `lsm_positions::LsmLayout::new` meets its contract: P, then M, each by what `counted` tells of it. Two counts below 2 ^ 31 have a product of
+-- 64 bits, so nothing saturates. Assumes nothing.
 use Rattle.lsm_positions.proofs.Passed.{told}
 use Rattle.lsm_format.proofs.Scenes.{layout-negative, layout-negative-tiles, layout-is}
 use native.Mathlib.Omega.{arith}

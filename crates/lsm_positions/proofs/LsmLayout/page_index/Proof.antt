@@ -1,3 +1,5 @@
+-- `lsm_positions::LsmLayout::page_index` meets its contract: no such scene, a product or a sum that overflows, or the page; whatever t and c
+-- are, since neither counts. Assumes nothing.
 use mathlib.Core.Path.{_∙_}
 use Rattle.lsm_format.proofs.Words.{told-value, told-overflow}
 use Rattle.lsm_format.proofs.Scenes.{page-outside, page-over, page-at}

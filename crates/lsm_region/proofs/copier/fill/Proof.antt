@@ -1,4 +1,6 @@
--- `lsm_region::copier::fill` meets its contract. Assumes nothing.
+-- `lsm_region::copier::fill` meets its contract. It needs that the rectangle has samples (`samples`): then its row fits 64 bits, and so does
+-- all that is reckoned from it. The weight lies in Answering: gathered rows are the window of the stored picture, as it is for one byte and for
+-- little-endian samples, and turned around for big-endian ones. Assumes nothing.
 use borrow.Author.Needs.{needs}
 use Rattle.lsm_region.proofs.copier.fill.Statement.{statement}
 use Rattle.lsm_region.proofs.copier.fill.Tie as tie

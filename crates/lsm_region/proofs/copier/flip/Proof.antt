@@ -1,4 +1,5 @@
--- `lsm_region::copier::flip` meets its contract. Assumes nothing.
+-- `lsm_region::copier::flip` meets its contract, for one, two and four bytes by swaps that compute. What is read or written after a write is
+-- still in range, since a write keeps the length. Assumes nothing.
 use mathlib.Core.Logic.{⊎-elim}
 use native.Mathlib.Omega.{arith}
 use borrow.Author.Needs.{needs}

@@ -1,4 +1,5 @@
--- `lsm_region::copier::gather` meets its contract. Assumes nothing.
+-- `lsm_region::copier::gather` meets its contract. Parts of rows are the callee's; whole rows are one run of bytes (`rows-run`), from where the
+-- cursor stands after the rows above them. Assumes nothing.
 use borrow.Author.Needs.{needs}
 use Rattle.lsm_region.proofs.copier.gather.Statement.{statement}
 use Rattle.lsm_region.proofs.copier.gather.Tie as tie

@@ -1,4 +1,4 @@
--- `lsm_strips::checks::plane_strips` meets its contract. Assumes nothing.
+-- `lsm_strips::checks::plane_strips` meets its contract: the size's refusal, or what `sized_strips` says, which needs the size. Assumes nothing.
 use borrow.Author.Needs.{needs}
 use Rattle.lsm_strips.proofs.checks.plane_strips.Statement.{statement}
 use Rattle.lsm_strips.proofs.checks.plane_strips.Tie as tie

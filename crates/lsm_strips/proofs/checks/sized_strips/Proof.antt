@@ -1,4 +1,5 @@
--- `lsm_strips::checks::sized_strips` meets its contract. Assumes nothing.
+-- `lsm_strips::checks::sized_strips` meets its contract: the page's refusal, or that of the strips in turn. They may be read since a channel's
+-- strips are in the table (`channel-room`). Assumes nothing.
 use borrow.Author.Needs.{needs}
 use Rattle.lsm_strips.proofs.checks.sized_strips.Statement.{statement}
 use Rattle.lsm_strips.proofs.checks.sized_strips.Tie as tie

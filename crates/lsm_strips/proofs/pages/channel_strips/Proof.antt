@@ -1,4 +1,6 @@
--- `lsm_strips::pages::channel_strips` meets its contract. Assumes nothing.
+-- `lsm_strips::pages::channel_strips` meets its contract. The weight lies in the sums: where the table has the page, its strips and the channel's
+-- among them are below the table's length, so no product overflows (`page-room`, `channel-part`). Strips of a page that overflow are in no
+-- table. Assumes nothing.
 use borrow.Author.Needs.{needs}
 use Rattle.lsm_strips.proofs.pages.channel_strips.Statement.{statement}
 use Rattle.lsm_strips.proofs.pages.channel_strips.Tie as tie

@@ -1,4 +1,5 @@
--- `lsm_strips::pages::whole_rows` meets its contract. Assumes nothing.
+-- `lsm_strips::pages::whole_rows` meets its contract, by the first test that says no: a row that overflows, one of no bytes, pages that overflow.
+-- Then the pages decide; their rows have bytes and fit. Assumes nothing.
 use borrow.Author.Needs.{needs}
 use Rattle.lsm_strips.proofs.pages.whole_rows.Statement.{statement}
 use Rattle.lsm_strips.proofs.pages.whole_rows.Tie as tie
@@ -12,7 +13,11 @@ use Rattle.lsm_positions.specs.Code.{pagesOf}
 use Rattle.lsm_description.specs.Code.{descriptionOf}
 use Rattle.lsm_strips.proofs.Judging.{whole-wide, whole-empty, whole-many, whole-by}
 
-row-told : (c : tie.After-known-told) → word (rowBytes (descriptionOf (c .before .before .before .before .before .before .before .before .args .d))) ≡ some (c .before .row .given .0 .0)
+-- what the function starts with, seen from the row's bytes
+abbrev start : tie.After-known-told → tie.Start
+start c = c .before .before .before .before .before .before .before .before
+
+row-told : (c : tie.After-known-told) → word (rowBytes (descriptionOf (start c .args .d))) ≡ some (c .before .row .given .0 .0)
 row-told c =
     let m = c .before .before .before in
     rw (m .before .size-bytes .ensures) at (told-value _ (m .checked-mul .ensures) (c .before .row .given .1))

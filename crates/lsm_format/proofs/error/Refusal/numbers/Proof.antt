@@ -1,3 +1,5 @@
+-- `lsm_format::error::Refusal::numbers` meets its contract: for each refusal the array is its row of document 01's table, then zeros, and both
+-- sides compute. Assumes nothing.
 use mathlib.Core.Path.{refl}
 use borrow.Author.Needs.{needs}
 use Rattle.lsm_format.proofs.error.Refusal.numbers.Statement.{statement}

@@ -1,3 +1,5 @@
+-- `lsm_format::types::Dims5::checked_plane_bytes` meets its contract: the size by the function below, then the limit, which is compared by
+-- arithmetic. Assumes nothing.
 use mathlib.Core.Path.{sym, ap, _∙_}
 use native.Mathlib.Omega.{arith}
 use borrow.Author.Tests.{le-leb, lt-leb}

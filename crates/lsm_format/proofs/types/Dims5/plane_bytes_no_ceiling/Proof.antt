@@ -1,3 +1,5 @@
+-- `lsm_format::types::Dims5::plane_bytes_no_ceiling` meets its contract. The definition reckons the product exactly, the code in two steps: a
+-- first product that overflows stays too large, since a sample has at least one byte (`product-stays`). Assumes nothing.
 use mathlib.Core.Path.{sym}
 use Rattle.lsm_format.specs.Sizes.{unlimitedSize}
 use Rattle.lsm_format.specs.Code.{kindOf}
