@@ -2,6 +2,7 @@
 // turn, so that the ratios say more than the times.
 use crate::large::File;
 use crate::port::Port;
+use crate::standin::{DESCRIPTION_WORDS, OPEN_WORDS, PICTURE_WORDS};
 use original::probe::{self, Memory};
 use std::time::{Duration, Instant};
 
@@ -69,9 +70,9 @@ fn picture(port: &mut dyn Port, what: &str, p: &Pages, rect: Option<[usize; 4]>)
     let mut memory = Memory::new();
     let opened = probe::open(&mut memory, &bytes).unwrap_or_else(|r| panic!("{what}: {}", r.text));
     let mut table = vec![0; (2 * p.pages * p.strips) as usize];
-    let mut answer = [0; 20];
+    let mut answer = [0; OPEN_WORDS];
     assert_eq!(port.open(&bytes, &mut table, &mut answer), 0);
-    let mut description = [0; 17];
+    let mut description = [0; DESCRIPTION_WORDS];
     description.copy_from_slice(&answer[3..]);
     let at = [0, 0, 0, (p.pages - 1) as usize];
     let [_, _, w, h] = rect.unwrap_or([0, 0, p.width as usize, p.height as usize]);
@@ -79,7 +80,7 @@ fn picture(port: &mut dyn Port, what: &str, p: &Pages, rect: Option<[usize; 4]>)
     let (mut original, mut ours, mut copy) = (vec![], vec![], vec![]);
     for _ in 0..RUNS {
         original.push(opened.timed(at, rect));
-        let mut a = [0; 5];
+        let mut a = [0; PICTURE_WORDS];
         let start = Instant::now();
         let n = port.picture(&bytes, &description, &table, at, rect, &mut out, &mut a);
         ours.push(start.elapsed());
@@ -102,7 +103,7 @@ fn opening(port: &mut dyn Port, what: &str, p: &Pages) {
         let (took, accepted) = probe::timed_open(&mut memory, &bytes);
         assert!(accepted);
         original.push(took);
-        let mut answer = [0; 20];
+        let mut answer = [0; OPEN_WORDS];
         let start = Instant::now();
         let n = port.open(&bytes, &mut table, &mut answer);
         ours.push(start.elapsed());
@@ -195,7 +196,7 @@ fn hostile_file(port: &mut dyn Port, what: &str, bytes: &[u8], runs: usize) {
     for _ in 0..runs {
         let (took, accepted) = probe::timed_open(&mut memory, bytes);
         original.push(took);
-        let mut answer = [0; 20];
+        let mut answer = [0; OPEN_WORDS];
         let start = Instant::now();
         let n = port.open(bytes, &mut table, &mut answer);
         ours.push(start.elapsed());

@@ -4,6 +4,7 @@ use crate::make;
 use crate::past;
 use crate::port::Port;
 use crate::random::Random;
+use crate::standin::{CHANNEL_WORDS, DESCRIPTION_WORDS, OPEN_WORDS, PICTURE_WORDS};
 use crate::walk::walk;
 use original::probe::{self, Memory, Opened, Picture, Refused, PANIC};
 use std::collections::BTreeMap;
@@ -99,7 +100,7 @@ pub fn rule(text: &str) -> String {
 }
 
 // One word of a description set to a bound; it stays a description.
-fn change(r: &mut Random, words: &mut [usize; 17], len: usize) {
+fn change(r: &mut Random, words: &mut [usize; DESCRIPTION_WORDS], len: usize) {
     let at = r.of(&[0, 1, 2, 3, 3, 4, 5, 5, 6, 6, 7, 8, 8, 9, 9, 16]);
     let n = words[at];
     words[at] = match at {
@@ -144,7 +145,7 @@ fn change(r: &mut Random, words: &mut [usize; 17], len: usize) {
 
 // The depth set below the number of Z, or to 0, with the pages of the table kept and more of them behind: copies whose strips are
 // shorter, longer, cut elsewhere or outside the file. So the whole-row test runs over fewer pages than can be asked for.
-fn shallow(r: &mut Random, words: &mut [usize; 17], table: &mut Vec<usize>, len: usize) {
+fn shallow(r: &mut Random, words: &mut [usize; DESCRIPTION_WORDS], table: &mut Vec<usize>, len: usize) {
     let page = 2 * words[3] * words[9];
     let pages = table.len() / page;
     words[8] = r.of(&[0, 0, words[8], words[8] / 2, words[8] - 1]);
@@ -403,10 +404,10 @@ impl Both {
     }
 
     fn opening(&mut self, file: &[u8], room: usize, wanted: &[usize], written: &[usize]) -> Option<String> {
-        let mut words = [0; 20];
+        let mut words = [0; OPEN_WORDS];
         words[..wanted.len()].copy_from_slice(wanted);
         let table = self.table.lend(room);
-        let answer = <&mut [usize; 20]>::try_from(self.answer.lend(20)).unwrap();
+        let answer = <&mut [usize; OPEN_WORDS]>::try_from(self.answer.lend(OPEN_WORDS)).unwrap();
         let start = Instant::now();
         let n = self.port.open(file, table, answer);
         self.tally.port += start.elapsed();
@@ -467,16 +468,16 @@ impl Both {
     fn lookup(
         &mut self,
         file: &[u8],
-        description: &[usize; 17],
+        description: &[usize; DESCRIPTION_WORDS],
         channel: usize,
         room: usize,
         wanted: &[usize],
         written: &[u8],
     ) -> Option<String> {
-        let mut words = [0; 8];
+        let mut words = [0; CHANNEL_WORDS];
         words[..wanted.len()].copy_from_slice(wanted);
         let name = self.name.lend(room);
-        let answer = <&mut [usize; 8]>::try_from(self.answer.lend(8)).unwrap();
+        let answer = <&mut [usize; CHANNEL_WORDS]>::try_from(self.answer.lend(CHANNEL_WORDS)).unwrap();
         let start = Instant::now();
         let n = self.port.channel(file, description, channel, name, answer);
         self.tally.port += start.elapsed();
@@ -639,16 +640,16 @@ impl Both {
     fn samples(
         &mut self,
         file: &[u8],
-        description: &[usize; 17],
+        description: &[usize; DESCRIPTION_WORDS],
         table: &[usize],
         at: [usize; 4],
         rect: Option<[usize; 4]>,
         room: usize,
-        words: &[usize; 5],
+        words: &[usize; PICTURE_WORDS],
         written: &[u8],
     ) -> Option<String> {
         let out = self.out.lend(room);
-        let answer = <&mut [usize; 5]>::try_from(self.answer.lend(5)).unwrap();
+        let answer = <&mut [usize; PICTURE_WORDS]>::try_from(self.answer.lend(PICTURE_WORDS)).unwrap();
         let start = Instant::now();
         let n = self.port.picture(file, description, table, at, rect, out, answer);
         self.tally.port += start.elapsed();

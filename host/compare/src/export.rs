@@ -2,7 +2,7 @@
 mod standin;
 mod walk;
 
-use standin::StandIn;
+use standin::{CHANNEL_WORDS, DESCRIPTION_WORDS, OPEN_WORDS, PICTURE_WORDS, StandIn};
 use std::cell::RefCell;
 use std::slice::{from_raw_parts, from_raw_parts_mut};
 
@@ -21,7 +21,7 @@ pub unsafe extern "C" fn lsm_open(
     answer: *mut usize,
 ) -> usize {
     let (file, table) = (from_raw_parts(file, file_len), from_raw_parts_mut(table, table_len));
-    PORT.with_borrow_mut(|p| p.open(file, table, &mut *(answer as *mut [usize; 20])))
+    PORT.with_borrow_mut(|p| p.open(file, table, &mut *(answer as *mut [usize; OPEN_WORDS])))
 }
 
 /// # Safety
@@ -37,8 +37,8 @@ pub unsafe extern "C" fn lsm_channel(
     answer: *mut usize,
 ) -> usize {
     let (file, name) = (from_raw_parts(file, file_len), from_raw_parts_mut(name, name_len));
-    let description = &*(description as *const [usize; 17]);
-    PORT.with_borrow_mut(|p| p.channel(file, description, channel, name, &mut *(answer as *mut [usize; 8])))
+    let description = &*(description as *const [usize; DESCRIPTION_WORDS]);
+    PORT.with_borrow_mut(|p| p.channel(file, description, channel, name, &mut *(answer as *mut [usize; CHANNEL_WORDS])))
 }
 
 /// # Safety
@@ -60,8 +60,8 @@ pub unsafe extern "C" fn lsm_plane(
 ) -> usize {
     let (file, table, out) =
         (from_raw_parts(file, file_len), from_raw_parts(table, table_len), from_raw_parts_mut(out, out_len));
-    let description = &*(description as *const [usize; 17]);
-    let answer = &mut *(answer as *mut [usize; 5]);
+    let description = &*(description as *const [usize; DESCRIPTION_WORDS]);
+    let answer = &mut *(answer as *mut [usize; PICTURE_WORDS]);
     PORT.with_borrow_mut(|p| p.picture(file, description, table, [scene, t, c, z], None, out, answer))
 }
 
@@ -88,7 +88,7 @@ pub unsafe extern "C" fn lsm_region(
 ) -> usize {
     let (file, table, out) =
         (from_raw_parts(file, file_len), from_raw_parts(table, table_len), from_raw_parts_mut(out, out_len));
-    let description = &*(description as *const [usize; 17]);
-    let answer = &mut *(answer as *mut [usize; 5]);
+    let description = &*(description as *const [usize; DESCRIPTION_WORDS]);
+    let answer = &mut *(answer as *mut [usize; PICTURE_WORDS]);
     PORT.with_borrow_mut(|p| p.picture(file, description, table, [scene, t, c, z], Some([x, y, w, h]), out, answer))
 }

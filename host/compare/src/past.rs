@@ -9,6 +9,8 @@
 //
 // The original asks for more: its `gather_rows` refuses with 2 where the page's own strips don't hold whole rows which add up to the
 // height. So what is wanted there is said here.
+use crate::standin::DESCRIPTION_WORDS;
+
 pub enum Found {
     Samples(Vec<u8>),
     Refused([usize; 5]),
@@ -27,12 +29,12 @@ impl Found {
     }
 }
 
-fn page(words: &[usize; 17], scene: usize, z: usize) -> u128 {
+fn page(words: &[usize; DESCRIPTION_WORDS], scene: usize, z: usize) -> u128 {
     scene as u128 * words[8] as u128 + z as u128
 }
 
 // Whether the checks before the rectangle's size pass and the page is past those of the test. `at` is scene, t, c, z.
-pub fn decides(words: &[usize; 17], at: [usize; 4], rect: [usize; 4]) -> bool {
+pub fn decides(words: &[usize; DESCRIPTION_WORDS], at: [usize; 4], rect: [usize; 4]) -> bool {
     let [scene, t, c, z] = at;
     let [x, y, w, h] = rect.map(|n| n as u128);
     let there = scene < words[7] && t < words[2] && c < words[3] && z < words[4];
@@ -42,7 +44,7 @@ pub fn decides(words: &[usize; 17], at: [usize; 4], rect: [usize; 4]) -> bool {
 }
 
 // The answer where `decides` and the whole-row test say yes. No sum or product can overflow: each fits 128 bits, or is tested.
-pub fn region(words: &[usize; 17], table: &[usize], file: &[u8], at: [usize; 4], rect: [usize; 4]) -> Found {
+pub fn region(words: &[usize; DESCRIPTION_WORDS], table: &[usize], file: &[u8], at: [usize; 4], rect: [usize; 4]) -> Found {
     let [scene, t, c, z] = at;
     let [x, y, w, h] = rect.map(|n| n as u128);
     let (wide, sample) = (words[6] as u128, [1, 2, 2, 4][words[1]]);
@@ -96,7 +98,7 @@ pub fn region(words: &[usize; 17], table: &[usize], file: &[u8], at: [usize; 4],
 
 // An input whose answer is settled: a description of one scene, time point and channel, 8 bits.
 pub struct Settled {
-    pub words: [usize; 17],
+    pub words: [usize; DESCRIPTION_WORDS],
     pub table: Vec<usize>,
     pub file: Vec<u8>,
     pub z: usize,
@@ -107,7 +109,7 @@ pub struct Settled {
 // `sizes` are Z, height, width, depth and strips of a channel. The file has so many bytes, from 10 upwards.
 fn case(sizes: [usize; 5], table: &[usize], len: u8, z: usize, rect: [usize; 4], wanted: Result<&[u8], &[usize]>) -> Settled {
     let [deep, high, wide, depth, strips] = sizes;
-    let mut words = [0; 17];
+    let mut words = [0; DESCRIPTION_WORDS];
     words[2..10].copy_from_slice(&[1, 1, deep, high, wide, 1, depth, strips]);
     let row = |short: &[usize]| std::array::from_fn(|i| short.get(i).copied().unwrap_or(0));
     let wanted = wanted.map(|samples| samples.to_vec()).map_err(row);

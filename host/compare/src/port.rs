@@ -1,30 +1,30 @@
 // The reader that is compared with the original, at the level of the C interface's words.
-use crate::standin::{Past, StandIn};
+use crate::standin::{CHANNEL_WORDS, DESCRIPTION_WORDS, OPEN_WORDS, PICTURE_WORDS, Past, StandIn};
 
 pub trait Port {
     fn name(&self) -> &'static str;
     // Whether it has plane and region.
     fn pictures(&self) -> bool;
-    fn open(&mut self, file: &[u8], table: &mut [usize], answer: &mut [usize; 20]) -> usize;
+    fn open(&mut self, file: &[u8], table: &mut [usize], answer: &mut [usize; OPEN_WORDS]) -> usize;
     fn channel(
         &mut self,
         file: &[u8],
-        description: &[usize; 17],
+        description: &[usize; DESCRIPTION_WORDS],
         channel: usize,
         name: &mut [u8],
-        answer: &mut [usize; 8],
+        answer: &mut [usize; CHANNEL_WORDS],
     ) -> usize;
     // Plane, or region where there is a rectangle x, y, w, h. `at` is scene, t, c, z.
     #[allow(clippy::too_many_arguments)]
     fn picture(
         &mut self,
         file: &[u8],
-        description: &[usize; 17],
+        description: &[usize; DESCRIPTION_WORDS],
         table: &[usize],
         at: [usize; 4],
         rect: Option<[usize; 4]>,
         out: &mut [u8],
-        answer: &mut [usize; 5],
+        answer: &mut [usize; PICTURE_WORDS],
     ) -> usize;
 }
 
@@ -37,17 +37,17 @@ impl Port for StandIn {
         true
     }
 
-    fn open(&mut self, file: &[u8], table: &mut [usize], answer: &mut [usize; 20]) -> usize {
+    fn open(&mut self, file: &[u8], table: &mut [usize], answer: &mut [usize; OPEN_WORDS]) -> usize {
         StandIn::open(self, file, table, answer)
     }
 
     fn channel(
         &mut self,
         file: &[u8],
-        description: &[usize; 17],
+        description: &[usize; DESCRIPTION_WORDS],
         channel: usize,
         name: &mut [u8],
-        answer: &mut [usize; 8],
+        answer: &mut [usize; CHANNEL_WORDS],
     ) -> usize {
         StandIn::channel(self, file, description, channel, name, answer)
     }
@@ -55,12 +55,12 @@ impl Port for StandIn {
     fn picture(
         &mut self,
         file: &[u8],
-        description: &[usize; 17],
+        description: &[usize; DESCRIPTION_WORDS],
         table: &[usize],
         at: [usize; 4],
         rect: Option<[usize; 4]>,
         out: &mut [u8],
-        answer: &mut [usize; 5],
+        answer: &mut [usize; PICTURE_WORDS],
     ) -> usize {
         StandIn::picture(self, file, description, table, at, rect, out, answer)
     }
@@ -79,17 +79,17 @@ impl Port for Library {
         lsm::c::PICTURES
     }
 
-    fn open(&mut self, file: &[u8], table: &mut [usize], answer: &mut [usize; 20]) -> usize {
+    fn open(&mut self, file: &[u8], table: &mut [usize], answer: &mut [usize; OPEN_WORDS]) -> usize {
         lsm::c::open(file, table, answer)
     }
 
     fn channel(
         &mut self,
         file: &[u8],
-        description: &[usize; 17],
+        description: &[usize; DESCRIPTION_WORDS],
         channel: usize,
         name: &mut [u8],
-        answer: &mut [usize; 8],
+        answer: &mut [usize; CHANNEL_WORDS],
     ) -> usize {
         lsm::c::channel(file, description, channel, name, answer)
     }
@@ -97,12 +97,12 @@ impl Port for Library {
     fn picture(
         &mut self,
         file: &[u8],
-        description: &[usize; 17],
+        description: &[usize; DESCRIPTION_WORDS],
         table: &[usize],
         at: [usize; 4],
         rect: Option<[usize; 4]>,
         out: &mut [u8],
-        answer: &mut [usize; 5],
+        answer: &mut [usize; PICTURE_WORDS],
     ) -> usize {
         match rect {
             None => lsm::c::plane(file, description, table, at, out, answer),
@@ -129,7 +129,7 @@ impl Port for Faulty {
         self.port.pictures()
     }
 
-    fn open(&mut self, file: &[u8], table: &mut [usize], answer: &mut [usize; 20]) -> usize {
+    fn open(&mut self, file: &[u8], table: &mut [usize], answer: &mut [usize; OPEN_WORDS]) -> usize {
         let before = *answer;
         let n = self.port.open(file, table, answer);
         match self.fault {
@@ -165,10 +165,10 @@ impl Port for Faulty {
     fn channel(
         &mut self,
         file: &[u8],
-        description: &[usize; 17],
+        description: &[usize; DESCRIPTION_WORDS],
         channel: usize,
         name: &mut [u8],
-        answer: &mut [usize; 8],
+        answer: &mut [usize; CHANNEL_WORDS],
     ) -> usize {
         let n = self.port.channel(file, description, channel, name, answer);
         match self.fault {
@@ -189,12 +189,12 @@ impl Port for Faulty {
     fn picture(
         &mut self,
         file: &[u8],
-        description: &[usize; 17],
+        description: &[usize; DESCRIPTION_WORDS],
         table: &[usize],
         at: [usize; 4],
         rect: Option<[usize; 4]>,
         out: &mut [u8],
-        answer: &mut [usize; 5],
+        answer: &mut [usize; PICTURE_WORDS],
     ) -> usize {
         self.beside.past = match self.fault {
             // on a page past those of the whole-row test, refuses where the page's own strips don't hold whole rows

@@ -3,6 +3,12 @@
 use crate::walk::walk;
 use other::probe::{self, Memory, Opened, Picture, Refused};
 
+/// The words of a description and of each answer, as include/lsm.h counts them. Later versions add words at the end only.
+pub const DESCRIPTION_WORDS: usize = 17;
+pub const OPEN_WORDS: usize = 3 + DESCRIPTION_WORDS;
+pub const CHANNEL_WORDS: usize = 8;
+pub const PICTURE_WORDS: usize = 5;
+
 // What it says of a rectangle on a page past those of the whole-row test: what document 01 says (past.rs quotes it), or what a faulty
 // port would.
 #[derive(Default, Clone, Copy, PartialEq)]
@@ -31,7 +37,7 @@ pub struct StandIn {
 pub const SILENT: usize = 98;
 
 // Whether the words are a description.
-fn describes(w: &[usize; 17]) -> bool {
+fn describes(w: &[usize; DESCRIPTION_WORDS]) -> bool {
     let float = |n: usize| u32::try_from(n).is_ok_and(|n| !f32::from_bits(n).is_nan());
     let sizes = w[10] == 0 || (float(w[11]) && float(w[12]) && w[13] <= 3 && (w[13] == 1 || float(w[14])));
     w[0] <= 1 && w[1] <= 3 && w[10] <= 1 && sizes && w[15] <= 1
@@ -94,7 +100,7 @@ impl StandIn {
     }
 
     // The reader of this description and table over this file: the one that opening gave, or one that is made so.
-    fn reader(&mut self, file: &[u8], words: &[usize; 17], table: Option<&[usize]>) -> Option<&Opened> {
+    fn reader(&mut self, file: &[u8], words: &[usize; DESCRIPTION_WORDS], table: Option<&[usize]>) -> Option<&Opened> {
         let fits = |o: &Opened| o.words == *words && table.is_none_or(|t| o.table == t);
         if self.file == file && matches!(&self.found, Some(Ok(o)) if fits(o)) {
             return self.found.as_ref().and_then(|f| f.as_ref().ok());
@@ -108,7 +114,7 @@ impl StandIn {
         self.handed.as_ref()
     }
 
-    pub fn open(&mut self, file: &[u8], table: &mut [usize], answer: &mut [usize; 20]) -> usize {
+    pub fn open(&mut self, file: &[u8], table: &mut [usize], answer: &mut [usize; OPEN_WORDS]) -> usize {
         self.look(file);
         let visited = self.visited;
         match self.found.as_ref().unwrap() {
@@ -126,10 +132,10 @@ impl StandIn {
     pub fn channel(
         &mut self,
         file: &[u8],
-        description: &[usize; 17],
+        description: &[usize; DESCRIPTION_WORDS],
         channel: usize,
         name: &mut [u8],
-        answer: &mut [usize; 8],
+        answer: &mut [usize; CHANNEL_WORDS],
     ) -> usize {
         if !describes(description) {
             return say(answer, &[2]);
@@ -155,12 +161,12 @@ impl StandIn {
     pub fn picture(
         &mut self,
         file: &[u8],
-        description: &[usize; 17],
+        description: &[usize; DESCRIPTION_WORDS],
         table: &[usize],
         at: [usize; 4],
         rect: Option<[usize; 4]>,
         out: &mut [u8],
-        answer: &mut [usize; 5],
+        answer: &mut [usize; PICTURE_WORDS],
     ) -> usize {
         if !describes(description) {
             return say(answer, &[2]);
