@@ -1,11 +1,11 @@
 -- What holds of whatever a rule accepts, step by step. Assumes nothing.
 use Prim.Native.Nat.{ℕ}
-use native.Mathlib.Omega.{arith}
 use mathlib.Core.Bool.{Bool, true, false, _&&_}
 use mathlib.Core.Option.{Option, none, some}
 use mathlib.Core.Path.{_≡_, refl, subst}
 use mathlib.Core.List.{List}
 use Rattle.lsm_format.specs.Answer.{Result, accepted, refused, bind, need, given}
+use Rattle.lsm_format.proofs.Apart.{no-case}
 
 -- Whatever is accepted is so.
 unfoldable pub Accepting : {A : Type 0} (P : A → Type 0) → Result A → Type 0
@@ -56,4 +56,4 @@ both-hold false b t = let z : true ≡ false = cc in (cc, cc)
 
 -- what is refused is not accepted
 pub not-both : {A : Type 0} (row : List ℕ) (a : A) → refused row ≡ accepted a → ⊥
-not-both row a q = let z : _≡_ {A = ℕ} 0 1 = cc in omega arith
+not-both row a q = no-case cc

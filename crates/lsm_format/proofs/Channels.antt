@@ -15,6 +15,7 @@ use Rattle.lsm_format.specs.Numbers.{Order, numberAt, i32At}
 use Rattle.lsm_format.specs.Lent.{lend, filled}
 use Rattle.lsm_format.specs.Channels.{pointers, colorAt, color, recordBy, nameRecord, recordOf, kept, nameSpan, joined, trimmed, name, channelIn, textOf, lookup, lookupMemory}
 use Rattle.lsm_format.proofs.Numbers.{part-past, part-there, part-bytes, number-past}
+use Rattle.lsm_format.proofs.Apart.{no-case}
 
 -- a signed number that was read is in the file
 there-by : (b : Bool) (o : Order) (f : List ℕ) (at : ℕ) (z : ℤ) → leb (at + 4) (length f) ≡ b → i32At o f at ≡ accepted z → at + 4 ≤ length f
@@ -23,8 +24,7 @@ there-by true o f at z t e = leb-true (at + 4) (length f) t
 there-by false o f at z t e =
     let p : numberAt 4 o f at ≡ refused parse = number-past 4 o f at (leb-false (at + 4) (length f) t) in
     let q : i32At o f at ≡ refused parse = rw (p, i32At, bind) in
-    let z : _≡_ {A = ℕ} 0 1 = cc in
-    absurd (omega arith)
+    no-case cc
 
 pub signed-there : (o : Order) (f : List ℕ) (at : ℕ) (z : ℤ) → i32At o f at ≡ accepted z → at + 4 ≤ length f
 signed-there o f at z e = there-by (leb (at + 4) (length f)) o f at z refl e
@@ -96,13 +96,12 @@ pos-by true f start m s n t e =
     omega (arith, leb-true (start + m) (length f) t, ap (λ (x : ℕ × ℕ). x .0) w, ap (λ (x : ℕ × ℕ). x .1) w)
 pos-by false f start m s n t e =
     let q : recordBy f start (accepted (pos m)) ≡ none = rw (t, recordBy) in
-    let z : _≡_ {A = ℕ} 0 1 = cc in
-    absurd (omega arith)
+    no-case cc
 
 inside-by : (f : List ℕ) (start : ℕ) (r : Result ℤ) (s n : ℕ) → recordBy f start r ≡ some (s, n) → s + n ≤ length f
 inside-by f start (accepted (pos m)) s n e = pos-by (leb (start + m) (length f)) f start m s n refl e
-inside-by f start (accepted (negsuc m)) s n e = let z : _≡_ {A = ℕ} 0 1 = cc in absurd (omega arith)
-inside-by f start (refused row) s n e = let z : _≡_ {A = ℕ} 0 1 = cc in absurd (omega arith)
+inside-by f start (accepted (negsuc m)) s n e = no-case cc
+inside-by f start (refused row) s n e = no-case cc
 
 pub record-inside : (o : Order) (f : List ℕ) (place s n : ℕ) → nameRecord o f place ≡ some (s, n) → s + n ≤ length f
 unfolding nameRecord
@@ -137,8 +136,7 @@ channel-by : (r : Option (ℕ × ℕ)) (o : Order) (f : List ℕ) (channel place
     ((next : ℕ) → recordOf o f next channel ≡ some (s, n) → s + n ≤ length f) → recordOf o f place (suc channel) ≡ some (s, n) → s + n ≤ length f
 channel-by none o f channel place s n q next e =
     let x : recordOf o f place (suc channel) ≡ none = names-end o f place channel q in
-    let z : _≡_ {A = ℕ} 0 1 = cc in
-    absurd (omega arith)
+    no-case cc
 channel-by (some r) o f channel place s n q next e = next (r .0 + r .1) (sym (names-go o f place channel r q) ∙ e)
 
 pub channel-inside : (o : Order) (f : List ℕ) (channel place s n : ℕ) → recordOf o f place channel ≡ some (s, n) → s + n ≤ length f
@@ -213,7 +211,7 @@ module _ (o : Order) (f : List ℕ) (block n channel : ℕ) (p : 0 < n) where
 -- it lies in the file
 kept-by-test : (b : Bool) (r : ℕ × ℕ) (s n : ℕ) → _≡_ {A = Option (ℕ × ℕ)} (elim b [ true ↦ some r | false ↦ none ]) (some (s, n)) → some r ≡ some (s, n)
 kept-by-test true r s n e = e
-kept-by-test false r s n e = let z : _≡_ {A = ℕ} 0 1 = cc in absurd (omega arith)
+kept-by-test false r s n e = no-case cc
 
 kept-is : (r : Option (ℕ × ℕ)) (s n : ℕ) → kept r ≡ some (s, n) → r ≡ some (s, n)
 kept-is none s n e = e
@@ -224,9 +222,9 @@ kept-inside o f channel place s n e = channel-inside o f channel place s n (kept
 
 pub span-inside : (o : Order) (f : List ℕ) (block : ℕ) (names : ℤ) (channel s n : ℕ) → nameSpan o f block names channel ≡ some (s, n) → s + n ≤ length f
 unfolding nameSpan
-span-inside o f block (pos zero) channel s n e = let z : _≡_ {A = ℕ} 0 1 = cc in absurd (omega arith)
+span-inside o f block (pos zero) channel s n e = no-case cc
 span-inside o f block (pos (suc m)) channel s n e = kept-inside o f channel (block + suc m) s n e
-span-inside o f block (negsuc m) channel s n e = let z : _≡_ {A = ℕ} 0 1 = cc in absurd (omega arith)
+span-inside o f block (negsuc m) channel s n e = no-case cc
 
 -- a place past the file's end has no record
 past-by : (channel : ℕ) (o : Order) (f : List ℕ) (place : ℕ) → length f < place + 4 → recordOf o f place channel ≡ none

@@ -16,6 +16,7 @@ use Rattle.lsm_format.specs.Numbers.{Order, i32At, f64BitsAt}
 use Rattle.lsm_format.specs.Calibration.{Calibration, uncalibrated, calibration}
 use Rattle.lsm_format.specs.CzInfo.{isMagic, blockLength, header, Extents, extents, positive, natural, size, stated}
 use Rattle.lsm_format.specs.CzInfo.{voxels, place, channelBlock, shots, from, czInfo}
+use Rattle.lsm_format.proofs.Apart.{no-case}
 
 -- ---- signed numbers by the code's tests
 
@@ -130,11 +131,11 @@ bind-accepted : {A B : Type 0} (m : Result A) {k : A → Result B} {b : B} → b
     (a : A) × ((m ≡ accepted a) × (k a ≡ accepted b))
 unfolding bind
 bind-accepted (accepted a) e = (a, (refl, e))
-bind-accepted (refused row) e = let z : _≡_ {A = ℕ} 0 1 = cc in absurd (omega arith)
+bind-accepted (refused row) e = no-case cc
 
 pub need-accepted : (row : List ℕ) (t : Bool) {u : Unit {0}} → need row t ≡ accepted u → t ≡ true
 need-accepted row true e = refl
-need-accepted row false e = let z : _≡_ {A = ℕ} 0 1 = cc in absurd (omega arith)
+need-accepted row false e = no-case cc
 
 -- a block that is taken lies in the file, and has the dimensions
 pub header-fits : (o : Order) (f : List ℕ) (block declared : ℕ) {n : ℕ} → header o f block declared ≡ accepted n →

@@ -14,6 +14,7 @@ use Rattle.lsm_format.specs.Answer.{Result, accepted, refused, bind, nee
 use Rattle.lsm_format.specs.Numbers.{Order, numberAt, u16At, u32At}
 use Rattle.lsm_format.specs.Directory.{among, typeSize, integerSize, valueAt, valuesAt, valuePlace, entryValues, scalarValues, scalar, arrayValues, array, Directory, Field, isShort, put, putField, Tag, czLsmInfo, putCz, tagOf, entryBy, entry}
 use Rattle.lsm_format.proofs.Numbers.{number-past, number-there}
+use Rattle.lsm_format.proofs.Apart.{no-case}
 
 -- ---- types
 
@@ -115,7 +116,7 @@ integer-size t size i = by (among t (1 ∷ 3 ∷ 4 ∷ 6 ∷ 7 ∷ 8 ∷ 9 ∷ 1
         or : ℕ → Option ℕ → ℕ
         or n none = n
         or n (some m) = m
-    by false e = let z : _≡_ {A = ℕ} 0 1 = cc in absurd (omega arith)
+    by false e = no-case cc
 
 module _ (n type size : ℕ) (o : Order) (f : List ℕ) (p : ℕ) (i : integerSize type ≡ some size) where
   pub values-next : (v : ℕ) → numberAt size o f p ≡ accepted v → valuesAt (suc n) type o f p ≡ bind (valuesAt n type o f (p + size)) (λ vs. accepted (v ∷ vs))

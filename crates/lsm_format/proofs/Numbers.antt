@@ -13,6 +13,7 @@ use lib.Seq.{drop-cons}
 use borrow.Author.Tests.{le-leb, lt-leb, lt-ltb, le-ltb, leb-true, leb-false}
 use Rattle.lsm_format.specs.Answer.{accepted, refused, bind, parse}
 use Rattle.lsm_format.specs.Numbers.{Order, little, big, valueOf, partAt, numberAt, signed32}
+use Rattle.lsm_format.proofs.Apart.{no-case}
 
 -- the two cases of a part of the file
 pub part-past : (f : List ℕ) (at count : ℕ) → length f < at + count → partAt f at count ≡ refused parse
@@ -89,8 +90,7 @@ inside-by : (b : Bool) (count : ℕ) (o : Order) (f : List ℕ) (p v : ℕ) → 
 inside-by true count o f p v t e = leb-true _ _ t
 inside-by false count o f p v t e =
     let past : numberAt count o f p ≡ refused parse = number-past count o f p (leb-false _ _ t) in
-    let z : _≡_ {A = ℕ} 0 1 = cc in
-    absurd (omega arith)
+    no-case cc
 
 pub number-inside : (count : ℕ) (o : Order) (f : List ℕ) (p v : ℕ) → numberAt count o f p ≡ accepted v → p + count ≤ length f
 number-inside count o f p v e = inside-by (leb (p + count) (length f)) count o f p v refl e

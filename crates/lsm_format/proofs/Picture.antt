@@ -11,7 +11,7 @@ use lib.Dec.{leb, ltb, eqb}
 use lib.ListN.{length, getD, take, drop, length-append, List·getD-append}
 use lib.Seq.{drop-cons, getD-append-add, ext-getD}
 use borrow.Author.Tests.{eq-eqb, lt-ltb, le-ltb, le-leb, lt-leb, leb-true, leb-false, ltb-true, eqb-true, eqb-false, not-true}
-use Rattle.lsm_format.specs.Answer.{Result, accepted, refused, bind, need, given, decode, oversizedAllocation, sceneOutOfRange}
+use Rattle.lsm_format.specs.Answer.{Result, accepted, refused, bind, need, given, decode, oversizedAllocation}
 use Rattle.lsm_format.specs.Words.{word}
 use Rattle.lsm_format.specs.Sizes.{Kind, pictureLimit, pictureBytes, unlimitedSize, pictureSize}
 use Rattle.lsm_format.specs.Rectangle.{Dims, Rect, Coordinate, noPicture, coordinates, within, rectangle}
@@ -20,6 +20,7 @@ use Rattle.lsm_format.specs.Open.{Description}
 use Rattle.lsm_format.specs.Picture.{Picture, Strips, offsetOf, countOf, total, place, lies, inside, inTurn, span, bytes, picture, eachSample, window, stripsPerPage, hasPage, stripsOn, channelStrips, sceneThere, coordinateThere, planeStrips}
 use Rattle.lsm_format.proofs.Words.{word-fits, word-some}
 use Rattle.lsm_format.proofs.Accepting.{both-hold}
+use Rattle.lsm_format.proofs.Apart.{no-case}
 
 -- ---- parts joined
 
@@ -264,8 +265,7 @@ head-by : (t : List ℕ) (len i n : ℕ) (b : Bool) → leb (offsetOf t i + coun
 head-by t len i n true l h e = let u = leb-true _ _ l in (u, sym (inside-next t len i n h u) ∙ e)
 head-by t len i n false l h e =
     let z : _≡_ {A = Bool} false true = sym (inside-past t len i n h (leb-false _ _ l)) ∙ e in
-    let o : _≡_ {A = ℕ} 0 1 = cc in
-    absurd (omega arith)
+    no-case cc
 
 pub inside-head : (t : List ℕ) (len i n : ℕ) → 0 < n → inside t len i n ≡ true
     → (offsetOf t i + countOf t i ≤ len) × (inside t len (i + 1) (n - 1) ≡ true)
@@ -314,17 +314,17 @@ module _ (outside miscounted t : List ℕ) (len : ℕ) where
 
 pub given-some : {A : Type 0} (row : List ℕ) (o : Option A) (a : A) → given row o ≡ accepted a → o ≡ some a
 given-some row (some b) a e = cc
-given-some row none a e = let z : _≡_ {A = ℕ} 0 1 = cc in absurd (omega arith)
+given-some row none a e = no-case cc
 
 pub need-true : (row : List ℕ) (b : Bool) (u : Unit {0}) → need row b ≡ accepted u → b ≡ true
 need-true row true u e = refl
-need-true row false u e = let z : _≡_ {A = ℕ} 0 1 = cc in absurd (omega arith)
+need-true row false u e = no-case cc
 
 pub bind-then : {A B C : Type 0} (m : Result A) (k : A → Result B) (b : B) → bind m k ≡ accepted b
     → ((a : A) → m ≡ accepted a → k a ≡ accepted b → C) → C
 unfolding bind
 bind-then (accepted a) k b e go = go a refl e
-bind-then (refused row) k b e go = let z : _≡_ {A = ℕ} 0 1 = cc in absurd (omega arith)
+bind-then (refused row) k b e go = no-case cc
 
 -- ---- sizes
 

@@ -1,23 +1,24 @@
 -- Laws of region: where it is decided as plane is, and that its answer is then a part of plane's. Assumes nothing.
 use Prim.Native.Nat.{ℕ, zero, suc, _+_, _-_, _*_, _%_, _^_, _<_, _≤_}
-use native.Mathlib.Nat.{zero-mul, add-mul, suc-mul, mul-comm, mul-assoc, mul-le-mul, mul-le-mul-right, mul-zero, div-add-mod', not-suc-le-zero}
+use native.Mathlib.Nat.{zero-mul, add-mul, suc-mul, mul-comm, mul-assoc, mul-le-mul, mul-le-mul-right, div-add-mod', not-suc-le-zero}
 use native.Mathlib.Omega.{arith}
 use mathlib.Core.Path.{_≡_, refl, sym, ap, _∙_}
 use mathlib.Core.Bool.{Bool, true, false, not, _&&_, _||_}
 use mathlib.Core.Option.{some}
-use mathlib.Core.List.{List, [], _∷_}
+use mathlib.Core.List.{List}
 use lib.Dec.{leb, ltb, eqb}
 use lib.ListN.{length, length-reverse}
-use borrow.Author.Tests.{eq-eqb, eqb-true, eqb-false, ltb-true, leb-true, le-leb, not-true}
+use borrow.Author.Tests.{eqb-true, eqb-false, ltb-true, leb-true, le-leb, not-true}
 use Rattle.lsm_format.specs.Answer.{Result, accepted, refused, bind, need, decode}
 use Rattle.lsm_format.specs.Numbers.{Order, little, big}
 use Rattle.lsm_format.specs.Sizes.{Kind, sampleSize, pictureLimit, pictureBytes, pictureSize}
 use Rattle.lsm_format.specs.Rectangle.{Rect, Coordinate, rectangle, isEmpty}
 use Rattle.lsm_format.specs.Scenes.{pages, pageOf}
 use Rattle.lsm_format.specs.Open.{Description}
-use Rattle.lsm_format.specs.Picture.{Picture, Strips, Samples, countOf, total, inside, inTurn, stored, picture, toLittle, eachSample, window, hasPage, stripsOn, channelStrips, coordinateThere, planeStrips, planeFrom, channelPicture, samplesIn, wholePicture, plane, rowBytes, wholeStrips, rowsIn, wholeChannel, wholeChannels, wholePage, wholePages, wholeRows, windowEnd, rowStrips, windowStrips, stripsBy, regionStrips, noStrips, filledStrips, regionFrom, region}
+use Rattle.lsm_format.specs.Picture.{Strips, Samples, countOf, total, inside, stored, picture, toLittle, eachSample, hasPage, stripsOn, channelStrips, coordinateThere, planeStrips, planeFrom, channelPicture, samplesIn, wholePicture, plane, rowBytes, wholeStrips, rowsIn, wholeChannel, wholeChannels, wholePage, wholePages, wholeRows, windowEnd, rowStrips, windowStrips, stripsBy, regionStrips, noStrips, filledStrips, regionFrom, region}
 use Rattle.lsm_format.proofs.Picture.{held, Even, picture-length, window-length, window-at, bind-then, need-true, size-is, size-fits, rectangle-within, channel-page, turn-total, strips-nowhere, plane-accepted}
 use Rattle.lsm_format.proofs.Accepting.{both-hold}
+use Rattle.lsm_format.proofs.Apart.{no-case}
 
 -- ---- numbers of a rectangle
 
@@ -249,8 +250,8 @@ pub not-empty : (r : Rect) → isEmpty r ≡ false → (0 < r .w) × (0 < r .h)
 not-empty r e = by (eqb (r .w) 0) (eqb (r .h) 0) refl refl e
   where
     by : (a b : Bool) → eqb (r .w) 0 ≡ a → eqb (r .h) 0 ≡ b → (a || b) ≡ false → (0 < r .w) × (0 < r .h)
-    by true b p q e = let z : _≡_ {A = ℕ} 0 1 = cc in absurd (omega arith)
-    by false true p q e = let z : _≡_ {A = ℕ} 0 1 = cc in absurd (omega arith)
+    by true b p q e = no-case cc
+    by false true p q e = no-case cc
     by false false p q e = let n = eqb-false (r .w) 0 p in let m = eqb-false (r .h) 0 q in (omega arith, omega arith)
 
 module _ (d : Description) (t : List ℕ) (len : ℕ) (co : Coordinate) where

@@ -13,6 +13,7 @@ use Rattle.lsm_format.specs.Words.{word}
 use Rattle.lsm_format.specs.Rectangle.{Coordinate}
 use Rattle.lsm_format.specs.Scenes.{Layout, count, scenes, layout, pageNumber, pageOf}
 use Rattle.lsm_format.proofs.Words.{word-over, word-none, word-some}
+use Rattle.lsm_format.proofs.Apart.{no-case}
 
 -- a count below 0, and one that is not
 pub count-negative : (z : ℤ) → ltZ z (pos 0) ≡ true → refused decode ≡ count z
@@ -21,7 +22,7 @@ count-negative (negsuc n) t = refl
 
 pub count-natural : (z : ℤ) → ltZ z (pos 0) ≡ false → T (nonNeg z) × (accepted (natAbs z) ≡ count z)
 count-natural (pos n) t = (tt, refl)
-count-natural (negsuc n) t = let z : _≡_ {A = ℕ} 0 1 = cc in absurd (omega arith)
+count-natural (negsuc n) t = no-case cc
 
 -- the layout by its counts: P first, then M
 module _ (p m : ℤ) (depth : ℕ) where
@@ -61,8 +62,7 @@ module _ (l : Layout) (co : Coordinate) where
       (h, word-some _ _ (sym (page-inside h) ∙ e) .0)
   page-by false page t e =
       let n : none ≡ pageOf l co = page-outside (ltb-false _ _ t) in
-      let z : _≡_ {A = ℕ} 0 1 = cc in
-      absurd (omega arith)
+      no-case cc
 
   pub page-some : (page : ℕ) → pageOf l co ≡ some page → (co .scene < l .scenes) × (page ≡ pageNumber l co)
   page-some page e = page-by (ltb (co .scene) (l .scenes)) page refl e

@@ -13,6 +13,7 @@ use Rattle.lsm_format.specs.Code.{wordOf}
 use Rattle.lsm_format.specs.declared.checked.Word.{Word}
 use Rattle.lsm_format.specs.declared.checked.Word.the-variants.{Value, Overflow}
 use Rattle.lsm_format.proofs.Told.{told}
+use Rattle.lsm_format.proofs.Apart.{no-case}
 
 pub word-fits : {n : ℕ} → n < 2 ^ 64 → word n ≡ some n
 unfolding word
@@ -28,8 +29,7 @@ some-by : (n x : ℕ) (b : Bool) → ltb n (2 ^ 64) ≡ b → word n ≡ some x 
 some-by n x true t e = let f : word n ≡ some n = word-fits (ltb-true n (2 ^ 64) t) in (cc, ltb-true n (2 ^ 64) t)
 some-by n x false t e =
     let f : word n ≡ none = word-over (ltb-false n (2 ^ 64) t) in
-    let z : _≡_ {A = ℕ} 0 1 = cc in
-    absurd (omega arith)
+    no-case cc
 
 pub word-some : (n x : ℕ) → word n ≡ some x → (x ≡ n) × (n < 2 ^ 64)
 word-some n x e = some-by n x (ltb n (2 ^ 64)) refl e
@@ -37,8 +37,7 @@ word-some n x e = some-by n x (ltb n (2 ^ 64)) refl e
 none-by : (n : ℕ) (b : Bool) → ltb n (2 ^ 64) ≡ b → word n ≡ none → 2 ^ 64 ≤ n
 none-by n true t e =
     let f : word n ≡ some n = word-fits (ltb-true n (2 ^ 64) t) in
-    let z : _≡_ {A = ℕ} 0 1 = cc in
-    absurd (omega arith)
+    no-case cc
 none-by n false t e = ltb-false n (2 ^ 64) t
 
 pub word-none : (n : ℕ) → word n ≡ none → 2 ^ 64 ≤ n

@@ -24,6 +24,7 @@ use Rattle.lsm_format.proofs.Lent.{lend-room, lend-short}
 use Rattle.lsm_format.proofs.Scenes.{page-some}
 use Rattle.lsm_format.proofs.Picture.{held, bytes-add, bytes-moved, bytes-length, bytes-at, bytes-run, place-in, place-past, inside-head, coordinate-channel, rectangle-within, channel-page, channel-room}
 use Rattle.lsm_format.proofs.Region.{RegionAccepted, accepted-by-plane, region-accepted, samples-at, samples-length, size-samples, empty-then, plane-from-then, region-from-then, plane-then, region-then, rectangle-accepted}
+use Rattle.lsm_format.proofs.Apart.{no-case}
 use Rattle.lsm_overwrite.specs.Exact.{namedStrips, stripBytes, joinedStrips, sampleOf, pictureSample, There, Exact, Accepted, Inside, EachRectangle, EachPlane, EveryInside}
 
 -- ---- the joined strips
@@ -260,7 +261,7 @@ module _ (d : Description) (t f : List ℕ) (co : Coordinate) where
 accepted-then : {C : Type 0} (m : Result Samples) (room : ℕ) → Lower m → Accepted (into m room) → ((a : Samples) → m ≡ accepted a → C) → C
 unfolding into bind Lower
 accepted-then (accepted a) room u e go = go a refl
-accepted-then (refused row) room u (inl e) go = let p = e .1 in let z : _≡_ {A = ℕ} 0 1 = cc in absurd (omega arith)
+accepted-then (refused row) room u (inl e) go = let p = e .1 in no-case cc
 accepted-then (refused row) room u (inr e) go =
     let p = e .1 in
     let q : row ≡ 7 ∷ e .0 ∷ [] = cc in

@@ -13,7 +13,7 @@ use Rattle.lsm_format.specs.Answer.{accepted}
 use Rattle.lsm_format.specs.Ranges.{Ranges, On, Agree}
 use Rattle.lsm_format.specs.Rectangle.{Rect, Coordinate}
 use Rattle.lsm_format.specs.Open.{Description}
-use Rattle.lsm_format.specs.Picture.{Strips, offsetOf, countOf, total, place, stored, lies, inside, span, bytes, picture, toLittle, eachSample, window, channelPicture, samplesIn, wholePicture, plane, windowEnd, regionFrom, region}
+use Rattle.lsm_format.specs.Picture.{Strips, offsetOf, countOf, total, place, stored, inside, span, bytes, picture, toLittle, eachSample, window, channelPicture, samplesIn, wholePicture, plane, windowEnd, regionFrom, region}
 use Rattle.lsm_format.specs.Listed.{stripsRanges, spanRanges, sampleRanges, windowRanges, regionRanges}
 use Rattle.lsm_format.proofs.Accepting.{accepting-self, both-hold}
 use Rattle.lsm_format.proofs.Open.{double}

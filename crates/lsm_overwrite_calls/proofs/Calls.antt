@@ -2,7 +2,6 @@
 -- `open_file`, `plane`, `region` and `channel` answer and leave, each of them as its contract says, they answer and leave alike. Assumes
 -- nothing.
 use Prim.Native.Nat.{ℕ}
-use native.Mathlib.Omega.{arith}
 use mathlib.Core.Path.{_≡_, refl, sym, ap, subst, _∙_}
 use mathlib.Core.List.{List}
 use lib.ListN.{length}
@@ -12,6 +11,7 @@ use Rattle.lsm_format.specs.Open.{openFile, openMemory}
 use Rattle.lsm_format.specs.Picture.{Samples, plane, region, into, bufferBy}
 use Rattle.lsm_format.specs.Rectangle.{Rect, Coordinate}
 use Rattle.lsm_format.specs.Listed.{listed, listedFor}
+use Rattle.lsm_format.proofs.Apart.{no-case}
 use Rattle.lsm_channel_colors.specs.Code.{Looked, Seen, seen}
 use Rattle.lsm_description.specs.Code.{descriptionOf}
 use Rattle.lsm_reader.specs.Opening.{OpenedAs, Told, toldOf, openedOf}
@@ -19,7 +19,7 @@ use Rattle.lsm_reader.specs.declared.open.Opened.{Opened}
 use Rattle.lsm_reader.specs.declared.open.OpenAnswer.{OpenAnswer}
 use Rattle.lsm_reader.specs.declared.open.OpenAnswer.the-variants.{Opened as OpenedWith}
 use Rattle.lsm_region.specs.Code.{Pictured, shapeOf}
-use Rattle.lsm_overwrite.specs.Blind.{Overwritten, Held, OpensAlike, RegionAlike, Blind}
+use Rattle.lsm_overwrite.specs.Blind.{Overwritten, Held, OpensAlike, RegionAlike}
 use Rattle.lsm_overwrite.proofs.Blind.{blind, blind-rectangle}
 
 -- ---- what a caller holds, from the contract of `open_file`
@@ -41,7 +41,7 @@ gave-by f lent t x (accepted o) e a t′ =
 gave-by f lent t x (refused row) e a t′ = absurd (never a)
   where
     never : openedOf (OpenedWith x) ≡ refused row → ⊥
-    never q = let z : _≡_ {A = ℕ} 0 1 = cc in omega arith
+    never q = no-case cc
 
 gave : (f lent t : List ℕ) (x : Opened) → OpenedAs f lent t (OpenedWith x) → Gave f lent t x
 gave f lent t x o = gave-by f lent t x (openFile f (length lent)) refl (o .answered) (o .memory)

@@ -18,6 +18,7 @@ use Rattle.lsm_format.specs.Open.{Description}
 use Rattle.lsm_format.specs.Picture.{Samples, wholePicture, plane, region, into, bufferBy}
 use Rattle.lsm_format.proofs.Lent.{lend-room, lend-short, filled-room}
 use Rattle.lsm_format.proofs.Picture.{bind-then}
+use Rattle.lsm_format.proofs.Apart.{no-case}
 use Rattle.lsm_region.specs.Code.{Pictured, shapeOf, answerOf}
 use Rattle.lsm_region.specs.declared.Picture.{Picture}
 use Rattle.lsm_region.specs.declared.PictureAnswer.{PictureAnswer}
@@ -49,23 +50,21 @@ room-by true a room x e h go =
     go l cc
 room-by false a room x e h go =
     let q : refused _ ≡ accepted x = rw (lend-short (length (a .bytes)) room (leb-false (length (a .bytes)) room e)) at h in
-    let n : _≡_ {A = ℕ} 0 1 = cc in
-    absurd (omega arith)
+    no-case cc
 
 into-then : {C : Type 0} (s : Result Samples) (room : ℕ) (x : Samples) → into s room ≡ accepted x → (length (x .bytes) ≤ room → s ≡ accepted x → C) → C
 into-then (accepted a) room x e go =
     room-by (leb (length (a .bytes)) room) a room x refl e (λ l q. go (rw q at l) (ap accepted q))
 into-then (refused row) room x e go =
     let q : refused row ≡ accepted x = sym (into-refused row room) ∙ e in
-    let n : _≡_ {A = ℕ} 0 1 = cc in
-    absurd (omega arith)
+    no-case cc
 
 shape-then : {C : Type 0} (m : Result Samples) (rows columns bytes : ℕ) → accepted (rows, columns, bytes) ≡ shapeOf m
     → ((x : Samples) → m ≡ accepted x → rows ≡ x .rows → columns ≡ x .columns → bytes ≡ length (x .bytes) → C) → C
 shape-then (accepted x) rows columns bytes e go =
     let w : _≡_ {A = ℕ × ℕ × ℕ} (rows, columns, bytes) (x .rows, x .columns, length (x .bytes)) = cc in
     go x refl (ap (λ (k : ℕ × ℕ × ℕ). k .0) w) (ap (λ (k : ℕ × ℕ × ℕ). k .1) w) (ap (λ (k : ℕ × ℕ × ℕ). k .2) w)
-shape-then (refused row) rows columns bytes e go = let n : _≡_ {A = ℕ} 0 1 = cc in absurd (omega arith)
+shape-then (refused row) rows columns bytes e go = no-case cc
 
 -- ---- what an accepted call leaves
 
@@ -112,7 +111,7 @@ shape-taken m (inr e) = inr (e .0, ap shapeOf (e .1))
 
 taken-shape : (m : Result Samples) → Accepted (shapeOf m) → Accepted m
 taken-shape (accepted x) e = inl (x, refl)
-taken-shape (refused row) (inl e) = let p = e .1 in let n : _≡_ {A = ℕ} 0 1 = cc in absurd (omega arith)
+taken-shape (refused row) (inl e) = let p = e .1 in no-case cc
 taken-shape (refused row) (inr e) = inr (e .0, ap (λ (l : List ℕ). refused l) (same row (7 ∷ e .0 ∷ []) (e .1)))
   where
     same : (a b : List ℕ) → _≡_ {A = Result (ℕ × ℕ × ℕ)} (refused a) (refused b) → a ≡ b

@@ -1,10 +1,10 @@
 -- "An array [0; 3072] holds a decoded name at its worst expansion, three bytes for each of 1,024": so every channel is found, and
 -- what the answer and the lent memory hold is the channel. Assumes nothing.
-use Prim.Native.Nat.{ℕ, zero, suc, _+_, _*_, _-_, _≤_, _<_}
+use Prim.Native.Nat.{ℕ, zero, suc, _+_, _-_, _≤_, _<_}
 use mathlib.Core.Path.{_≡_, refl, ap, _∙_}
 use mathlib.Core.Bool.{Bool, true, false}
 use mathlib.Core.Option.{Option, none, some}
-use mathlib.Core.List.{List, [], _∷_}
+use mathlib.Core.List.{List}
 use native.Mathlib.Omega.{arith}
 use borrow.Author.Tests.{lt-ltb, leb-true}
 use lib.Dec.{leb}
@@ -22,6 +22,7 @@ use Rattle.lsm_channel_colors.specs.declared.ChannelMeta.{ChannelMeta}
 use Rattle.lsm_channel_colors.specs.declared.ChannelAnswer.{ChannelAnswer}
 use Rattle.lsm_channel_colors.specs.declared.ChannelAnswer.the-variants.{Found, Refused}
 use Rattle.lsm_format.specs.declared.error.Refusal.{Refusal}
+use Rattle.lsm_format.proofs.Apart.{no-case}
 use Rattle.lsm_printout.specs.Channel.{firstOf, channelOf}
 
 -- ---- a name
@@ -102,5 +103,4 @@ module _ {o : Order} {f : List ℕ} {block : Option ℕ} {channels channel : ℕ
   looked-refused {r} {e} h k l v =
       let a : answerOf r ≡ accepted (seenOf (channelIn o f block channel)) = answered h k l in
       let b = ap answerOf v in
-      let z : _≡_ {A = ℕ} 0 1 = cc in
-      omega arith
+      no-case cc

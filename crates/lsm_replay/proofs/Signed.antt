@@ -1,5 +1,5 @@
 -- An i32 below 0 and the u32 of the same bits. Assumes nothing.
-use Prim.Native.Nat.{ℕ, suc, _-_, _<_}
+use Prim.Native.Nat.{suc, _-_, _<_}
 use native.Mathlib.Omega.{arith}
 use mathlib.Core.Bool.{true, false}
 use mathlib.Core.Path.{_≡_}
@@ -7,6 +7,7 @@ use lib.Dec.{T}
 use lib.IntN.{ℤ, pos, negsuc, natAbs, _+ℤ_}
 use lib.Signed.{ltZ, nonNeg, mag}
 use borrow.Author.Tests.{le-ltb, ltb-true}
+use Rattle.lsm_format.proofs.Apart.{no-case}
 
 -- 2^32 more
 pub raised : (z : ℤ) → mag z < 2147483648 → ltZ z (pos 0) ≡ true → z +ℤ pos 4294967296 ≡ pos (4294967296 - natAbs z)
@@ -20,4 +21,4 @@ below (negsuc n) h t = omega arith
 -- one that is not below 0
 pub natural : (z : ℤ) → ltZ z (pos 0) ≡ false → T (nonNeg z)
 natural (pos n) t = tt
-natural (negsuc n) t = let z : _≡_ {A = ℕ} 0 1 = cc in absurd (omega arith)
+natural (negsuc n) t = no-case cc

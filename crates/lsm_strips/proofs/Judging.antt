@@ -20,11 +20,12 @@ use Rattle.lsm_format.specs.Picture.{Strips, countOf, total, inside, inTurn, wh
 use Rattle.lsm_format.proofs.Words.{word-some, word-none}
 use Rattle.lsm_format.proofs.Picture.{total-step, inside-none, page-there, page-missing, strips-oversized, strips-judged, given-some}
 use Rattle.lsm_format.proofs.Region.{below}
+use Rattle.lsm_format.proofs.Apart.{no-case}
 use Rattle.lsm_strips.specs.Parts.{wholeRowsOf, pageIn, pastTest}
 
 given-none : (r : List ℕ) (o : Option ℕ) (row : List ℕ) → given r o ≡ refused row → o ≡ none
 given-none r none row e = refl
-given-none r (some a) row e = let z : _≡_ {A = ℕ} 0 1 = cc in absurd (omega arith)
+given-none r (some a) row e = no-case cc
 
 -- ---- tests of equality
 

@@ -22,6 +22,7 @@ use Rattle.lsm_format.specs.Directory.{directory, ends, entries, entry, scalar,
 use Rattle.lsm_format.specs.Open.{openFile, openMemory, read, tiffHeader, walk, chain, join, agrees, describeWalk, agreement, layoutFor, describe, chainRanges, walkRanges, openRanges}
 use Rattle.lsm_format.specs.Picture.{total, place, stored, inside, span, bytes, picture, eachSample, window, channelStrips, sceneThere, coordinateThere, planeStrips, inTurn, channelPicture, samplesIn, plane, planeFrom, wholeStrips, rowsIn, wholeChannel, wholeChannels, wholePages, wholeRows, rowStrips, windowStrips, regionStrips, regionFrom}
 use Rattle.lsm_format.specs.Listed.{stripsRanges, listed, spanRanges, sampleRanges, windowRanges, regionRanges, listedFor}
+use Rattle.lsm_format.proofs.Apart.{no-case}
 use Rattle.lsm_overwrite.specs.Blind.{Overwritten, Held, Blind, BlindFor}
 use Rattle.lsm_overwrite.proofs.Blind.{blind, blind-rectangle, overwrite}
 use Rattle.marked_cases.specs.Marked.{G, G-opened}
@@ -77,8 +78,7 @@ spare [] p t i = i
 spare (r ∷ rs) p t (inl i) =
     let e : (leb (r .0) p && ltb p (r .0 + r .1)) ≡ false = neither _ (covers rs p) t .0 in
     let z : true ≡ false = rw (le-leb (r .0) p (i .0), lt-ltb p (r .0 + r .1) (i .1)) at e in
-    let n : _≡_ {A = ℕ} 0 1 = cc in
-    absurd (omega arith)
+    no-case cc
 spare (r ∷ rs) p t (inr i) = spare rs p (neither (leb (r .0) p && ltb p (r .0 + r .1)) (covers rs p) t .1) i
 
 -- G with its first sample overwritten

@@ -11,11 +11,10 @@ use lib.Dec.{leb, ltb, eqb}
 use lib.IntN.{ℤ}
 use lib.ListN.{length, getD}
 use borrow.Author.Tests.{leb-true, leb-false, ltb-true, ltb-false, eqb-true}
-use Rattle.lsm_format.specs.Answer.{Result, accepted, refused, decode, tooShort}
+use Rattle.lsm_format.specs.Answer.{Result, accepted, refused, decode}
 use Rattle.lsm_format.specs.Numbers.{Order, little, big, valueOf, numberAt, i32At, signed32}
 use Rattle.lsm_format.specs.Sizes.{Kind}
 use Rattle.lsm_format.specs.Scenes.{Layout, layout, scenes}
-use Rattle.lsm_format.specs.Lent.{lend}
 use Rattle.lsm_format.specs.CzInfo.{CzInfo, Extents, size, extents, czInfo}
 use Rattle.lsm_format.specs.Directory.{imageWidth, imageLength, Directory}
 use Rattle.lsm_format.specs.Open.{Description, Opened, agreement, layoutFor, describe, describeWalk, read, openFile}

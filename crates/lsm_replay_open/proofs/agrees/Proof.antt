@@ -1,10 +1,9 @@
 -- `lsm_replay_open::agrees` meets its contract. Assumes nothing.
-use Prim.Native.Nat.{ℕ}
 use native.Mathlib.Omega.{arith}
 use borrow.Author.Needs.{needs}
-use mathlib.Core.Path.{_≡_}
 use Rattle.lsm_replay_open.proofs.agrees.Statement.{statement}
 use Rattle.lsm_replay_open.proofs.agrees.Tie as tie
+use Rattle.lsm_format.proofs.Apart.{no-case}
 
 opening-requires : tie.Need-opening-requires
 opening-requires c κs = search needs
@@ -19,7 +18,7 @@ returns-2 : tie.Need-returns-2
 returns-2 c = λ e. omega (arith, c .lookup .ensures e)
 
 returns-3 : tie.Need-returns-3
-returns-3 c = λ e. let z : _≡_ {A = ℕ} 0 1 = cc in absurd (omega arith)
+returns-3 c = λ e. no-case cc
 
 pub agrees-spec : {M : Type 1} → statement M
 agrees-spec = tie.close (tie.spec opening-requires returns lookup-requires returns-2 returns-3)

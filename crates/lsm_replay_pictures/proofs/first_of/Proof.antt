@@ -1,16 +1,14 @@
 -- `lsm_replay_pictures::first_of` meets its contract. Assumes nothing.
-use Prim.Native.Nat.{ℕ}
-use native.Mathlib.Omega.{arith}
-use mathlib.Core.Path.{_≡_}
 use borrow.Author.Needs.{needs}
 use Rattle.lsm_replay_pictures.proofs.first_of.Statement.{statement}
 use Rattle.lsm_replay_pictures.proofs.first_of.Tie as tie
+use Rattle.lsm_format.proofs.Apart.{no-case}
 
 returns : tie.Need-returns
 returns c = search needs
 
 returns-2 : tie.Need-returns-2
-returns-2 c = λ e. let z : _≡_ {A = ℕ} 0 1 = cc in absurd (omega arith)
+returns-2 c = λ e. no-case cc
 
 returns-3 : tie.Need-returns-3
 returns-3 c = search needs

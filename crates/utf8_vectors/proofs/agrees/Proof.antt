@@ -1,13 +1,13 @@
 -- `utf8_vectors::agrees` meets its contract: where decoding accepts, the first `n` bytes of `out` are the text (`told-length`), and
 -- `check::same` compares them with what is said. A refusal answers `false`, which owes nothing. Assumes nothing.
-use Prim.Native.Nat.{ℕ}
 use native.Mathlib.Omega.{arith}
-use mathlib.Core.Path.{_≡_, sym, _∙_}
+use mathlib.Core.Path.{sym, _∙_}
 use borrow.Author.Needs.{needs}
 use lib.ListN.{length-take}
 use Rattle.utf8.proofs.Lent.{told-length}
 use Rattle.utf8_vectors.proofs.agrees.Statement.{statement}
 use Rattle.utf8_vectors.proofs.agrees.Tie as tie
+use Rattle.lsm_format.proofs.Apart.{no-case}
 
 decode-lossy-requires : tie.Need-decode-lossy-requires
 decode-lossy-requires c κs = search needs
@@ -37,7 +37,7 @@ same-length-2 : tie.Need-same-length-2
 same-length-2 c = search needs
 
 returns-2 : tie.Need-returns-2
-returns-2 c e = let z : _≡_ {A = ℕ} 0 1 = cc in absurd (omega arith)
+returns-2 c e = no-case cc
 
 pub agrees-spec : {M : Type 1} → statement M
 agrees-spec =

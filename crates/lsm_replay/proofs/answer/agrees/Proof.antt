@@ -9,6 +9,7 @@ use borrow.Author.Needs.{needs}
 use lib.ListN.{getD}
 use Rattle.lsm_replay.proofs.answer.agrees.Statement.{statement}
 use Rattle.lsm_replay.proofs.answer.agrees.Tie as tie
+use Rattle.lsm_format.proofs.Apart.{no-case}
 
 abbrev Inv-loop : tie.InvT-loop
 Inv-loop from said found len i₀ i = (i ≤ len) × ((k : ℕ) → k < i → getD said (from + k) 0 ≡ getD found k 0)
@@ -17,16 +18,16 @@ abbrev μ-loop : tie.MeasureT-loop
 μ-loop from said found len i₀ i = len - i
 
 returns : tie.Need-returns Inv-loop μ-loop
-returns c = (λ e. let z : _≡_ {A = ℕ} 0 1 = cc in absurd (omega arith), (λ e. let z : _≡_ {A = ℕ} 0 1 = cc in absurd (omega arith), λ e. let z : _≡_ {A = ℕ} 0 1 = cc in absurd (omega arith)))
+returns c = (λ e. no-case cc, (λ e. no-case cc, λ e. no-case cc))
 
 returns-2 : tie.Need-returns-2 Inv-loop μ-loop
-returns-2 c = (λ e. let z : _≡_ {A = ℕ} 0 1 = cc in absurd (omega arith), (λ e. let z : _≡_ {A = ℕ} 0 1 = cc in absurd (omega arith), λ e. let z : _≡_ {A = ℕ} 0 1 = cc in absurd (omega arith)))
+returns-2 c = (λ e. no-case cc, (λ e. no-case cc, λ e. no-case cc))
 
 returns-3 : tie.Need-returns-3 Inv-loop μ-loop
-returns-3 c = (λ e. let z : _≡_ {A = ℕ} 0 1 = cc in absurd (omega arith), (λ e. let z : _≡_ {A = ℕ} 0 1 = cc in absurd (omega arith), λ e. let z : _≡_ {A = ℕ} 0 1 = cc in absurd (omega arith)))
+returns-3 c = (λ e. no-case cc, (λ e. no-case cc, λ e. no-case cc))
 
 returns-4 : tie.Need-returns-4 Inv-loop μ-loop
-returns-4 c = (λ e. let z : _≡_ {A = ℕ} 0 1 = cc in absurd (omega arith), (λ e. let z : _≡_ {A = ℕ} 0 1 = cc in absurd (omega arith), λ e. let z : _≡_ {A = ℕ} 0 1 = cc in absurd (omega arith)))
+returns-4 c = (λ e. no-case cc, (λ e. no-case cc, λ e. no-case cc))
 
 loop-holds : tie.Need-loop-holds Inv-loop μ-loop
 loop-holds c = search needs
@@ -47,7 +48,7 @@ array-read-if5-2 : tie.Need-array-read-if5-2 Inv-loop μ-loop
 array-read-if5-2 c = search needs
 
 returns-5 : tie.Need-returns-5 Inv-loop μ-loop
-returns-5 c = (λ e. let z : _≡_ {A = ℕ} 0 1 = cc in absurd (omega arith), (λ e. let z : _≡_ {A = ℕ} 0 1 = cc in absurd (omega arith), λ e. let z : _≡_ {A = ℕ} 0 1 = cc in absurd (omega arith)))
+returns-5 c = (λ e. no-case cc, (λ e. no-case cc, λ e. no-case cc))
 
 add-i : tie.Need-add-i Inv-loop μ-loop
 add-i c = search needs

@@ -1,14 +1,12 @@
 -- `lsm_replay::cz::block` meets its contract: with fewer than three numbers the answer is `false`, which owes nothing. Past that test the
 -- three reads of what is asked lie in the array, which has 20. Assumes nothing.
-use Prim.Native.Nat.{ℕ}
-use native.Mathlib.Omega.{arith}
-use mathlib.Core.Path.{_≡_}
 use borrow.Author.Needs.{needs}
 use Rattle.lsm_replay.proofs.cz.block.Statement.{statement}
 use Rattle.lsm_replay.proofs.cz.block.Tie as tie
+use Rattle.lsm_format.proofs.Apart.{no-case}
 
 returns : tie.Need-returns
-returns c e = let z : _≡_ {A = ℕ} 0 1 = cc in absurd (omega arith)
+returns c e = no-case cc
 
 array-read-order : tie.Need-array-read-order
 array-read-order c = search needs

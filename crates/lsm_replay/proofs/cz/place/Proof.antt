@@ -1,10 +1,9 @@
 -- `lsm_replay::cz::place` meets its contract. Assumes nothing.
-use Prim.Native.Nat.{ℕ}
-use native.Mathlib.Omega.{arith}
-use mathlib.Core.Path.{_≡_, refl}
+use mathlib.Core.Path.{refl}
 use borrow.Author.Needs.{needs}
 use Rattle.lsm_replay.proofs.cz.place.Statement.{statement}
 use Rattle.lsm_replay.proofs.cz.place.Tie as tie
+use Rattle.lsm_format.proofs.Apart.{no-case}
 
 enum-told : tie.Need-enum-told
 enum-told c = search needs
@@ -13,10 +12,10 @@ enum-known-b : tie.Need-enum-known-b
 enum-known-b c = search needs
 
 returns : tie.Need-returns
-returns c = (λ h. refl, λ at h. let z : _≡_ {A = ℕ} 0 1 = cc in absurd (omega arith))
+returns c = (λ h. refl, λ at h. no-case cc)
 
 returns-2 : tie.Need-returns-2
-returns-2 c = (λ h. let z : _≡_ {A = ℕ} 0 1 = cc in absurd (omega arith), λ at h. cc)
+returns-2 c = (λ h. no-case cc, λ at h. cc)
 
 pub place-spec : {M : Type 1} → statement M
 place-spec = tie.close (tie.spec enum-told enum-known-b returns returns-2)

@@ -1,16 +1,14 @@
 -- `lsm_replay::ground::ground` meets its contract. Assumes nothing.
-use Prim.Native.Nat.{ℕ}
-use native.Mathlib.Omega.{arith}
-use mathlib.Core.Path.{_≡_}
 use borrow.Author.Needs.{needs}
 use Rattle.lsm_replay.proofs.ground.ground.Statement.{statement}
 use Rattle.lsm_replay.proofs.ground.ground.Tie as tie
+use Rattle.lsm_format.proofs.Apart.{no-case}
 
 asked-requires : tie.Need-asked-requires
 asked-requires c κs = search needs
 
 returns : tie.Need-returns
-returns c e = let z : _≡_ {A = ℕ} 0 1 = cc in absurd (omega arith)
+returns c e = no-case cc
 
 answer-to-requires : tie.Need-answer-to-requires
 answer-to-requires c κs = search needs

@@ -1,14 +1,12 @@
 -- `lsm_replay::voxels::voxels` meets its contract: with fewer than three numbers the answer is `false`, which owes nothing; past that test
 -- the three reads lie in the array. Assumes nothing.
-use Prim.Native.Nat.{ℕ}
-use native.Mathlib.Omega.{arith}
-use mathlib.Core.Path.{_≡_}
 use borrow.Author.Needs.{needs}
 use Rattle.lsm_replay.proofs.voxels.voxels.Statement.{statement}
 use Rattle.lsm_replay.proofs.voxels.voxels.Tie as tie
+use Rattle.lsm_format.proofs.Apart.{no-case}
 
 returns : tie.Need-returns
-returns c e = let z : _≡_ {A = ℕ} 0 1 = cc in absurd (omega arith)
+returns c e = no-case cc
 
 array-read-pattern : tie.Need-array-read-pattern
 array-read-pattern c = search needs

@@ -1,12 +1,11 @@
 -- `lsm_replay_open::lookup::found` meets its contract: with fewer than seven numbers the answer is `false`, which owes nothing. Past that
 -- test the numbers may be parted at the seventh. Assumes nothing.
-use Prim.Native.Nat.{ℕ}
 use native.Mathlib.Omega.{arith}
-use mathlib.Core.Path.{_≡_}
 use Rattle.vectors.proofs.Compared.{taken}
 use borrow.Author.Needs.{needs}
 use Rattle.lsm_replay_open.proofs.lookup.found.Statement.{statement}
 use Rattle.lsm_replay_open.proofs.lookup.found.Tie as tie
+use Rattle.lsm_format.proofs.Apart.{no-case}
 
 colour-requires : tie.Need-colour-requires
 colour-requires c κs = search needs
@@ -18,7 +17,7 @@ array-read-len : tie.Need-array-read-len
 array-read-len c = search needs
 
 returns : tie.Need-returns
-returns c = λ e. let z : _≡_ {A = ℕ} 0 1 = cc in absurd (omega arith)
+returns c = λ e. no-case cc
 
 slice-aggregate-same-words : tie.Need-slice-aggregate-same-words
 slice-aggregate-same-words c = taken 7 (c .before .before .before .before .before .before .args .said .now) (omega arith)

@@ -1,15 +1,14 @@
 -- `lsm_replay_open::lookup::lookup` meets its contract: with fewer than two numbers the answer is `false`, which owes nothing. Past both
 -- tests the numbers may be parted at the second, and the room asked for is in the memory at hand. Assumes nothing.
-use Prim.Native.Nat.{ℕ}
 use native.Mathlib.Omega.{arith}
-use mathlib.Core.Path.{_≡_}
 use borrow.Author.Needs.{needs}
 use Rattle.vectors.proofs.Compared.{taken}
 use Rattle.lsm_replay_open.proofs.lookup.lookup.Statement.{statement}
 use Rattle.lsm_replay_open.proofs.lookup.lookup.Tie as tie
+use Rattle.lsm_format.proofs.Apart.{no-case}
 
 returns : tie.Need-returns
-returns c = λ e. let z : _≡_ {A = ℕ} 0 1 = cc in absurd (omega arith)
+returns c = λ e. no-case cc
 
 shared-slice-read-room : tie.Need-shared-slice-read-room
 shared-slice-read-room c = search needs

@@ -1,18 +1,17 @@
 -- `lsm_replay_open::opening::opened` meets its contract: what is owed says something of `true` alone, and past the two tests it holds. The
 -- same tests are what the five parts of `said` and `table` need, which are bounded by 3, 20 and the table's words. Assumes nothing.
-use Prim.Native.Nat.{ℕ}
 use native.Mathlib.Omega.{arith}
-use mathlib.Core.Path.{_≡_}
 use borrow.Author.Needs.{needs}
 use Rattle.vectors.proofs.Compared.{taken}
 use Rattle.lsm_replay_open.proofs.opening.opened.Statement.{statement}
 use Rattle.lsm_replay_open.proofs.opening.opened.Tie as tie
+use Rattle.lsm_format.proofs.Apart.{no-case}
 
 returns : tie.Need-returns
-returns c = (λ e. let z : _≡_ {A = ℕ} 0 1 = cc in absurd (omega arith), λ e. let z : _≡_ {A = ℕ} 0 1 = cc in absurd (omega arith))
+returns c = (λ e. no-case cc, λ e. no-case cc)
 
 returns-2 : tie.Need-returns-2
-returns-2 c = (λ e. let z : _≡_ {A = ℕ} 0 1 = cc in absurd (omega arith), λ e. let z : _≡_ {A = ℕ} 0 1 = cc in absurd (omega arith))
+returns-2 c = (λ e. no-case cc, λ e. no-case cc)
 
 slice-aggregate-same-words : tie.Need-slice-aggregate-same-words
 slice-aggregate-same-words c = taken 3 (c .before .before .before .before .before .args .said .now) (omega arith)

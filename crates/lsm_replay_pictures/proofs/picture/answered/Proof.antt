@@ -1,12 +1,10 @@
 -- `lsm_replay_pictures::picture::answered` meets its contract, by the letter: a plane's line has four numbers at least, a rectangle's
 -- eight, and any other letter answers `false`, which owes nothing. Assumes nothing.
-use Prim.Native.Nat.{ℕ}
 use native.Mathlib.Omega.{arith}
-use mathlib.Core.Path.{_≡_}
-use lib.ListN.{length}
 use borrow.Author.Needs.{needs}
 use Rattle.lsm_replay_pictures.proofs.picture.answered.Statement.{statement}
 use Rattle.lsm_replay_pictures.proofs.picture.answered.Tie as tie
+use Rattle.lsm_format.proofs.Apart.{no-case}
 
 plane-agrees-requires : tie.Need-plane-agrees-requires
 plane-agrees-requires c κs = search needs
@@ -27,7 +25,7 @@ returns-2 : tie.Need-returns-2
 returns-2 c = λ e. omega (arith, c .before .before .region-agrees .ensures e)
 
 returns-3 : tie.Need-returns-3
-returns-3 c = λ e. let z : _≡_ {A = ℕ} 0 1 = cc in absurd (omega arith)
+returns-3 c = λ e. no-case cc
 
 pub answered-spec : {M : Type 1} → statement M
 answered-spec =

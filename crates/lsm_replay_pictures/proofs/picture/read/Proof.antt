@@ -1,15 +1,14 @@
 -- `lsm_replay_pictures::picture::read` meets its contract. The weight lies in the last answer: the numbers are four and the rest,
 -- `same_then_kept` ensures that the rest are as many as the picture's bytes, and that these are within `out`. Assumes nothing.
-use Prim.Native.Nat.{ℕ}
 use native.Mathlib.Omega.{arith}
-use mathlib.Core.Path.{_≡_}
 use Rattle.vectors.proofs.Compared.{taken, rested}
 use borrow.Author.Needs.{needs}
 use Rattle.lsm_replay_pictures.proofs.picture.read.Statement.{statement}
 use Rattle.lsm_replay_pictures.proofs.picture.read.Tie as tie
+use Rattle.lsm_format.proofs.Apart.{no-case}
 
 returns : tie.Need-returns
-returns c = λ e. let z : _≡_ {A = ℕ} 0 1 = cc in absurd (omega arith)
+returns c = λ e. no-case cc
 
 slice-aggregate-same-words : tie.Need-slice-aggregate-same-words
 slice-aggregate-same-words c = taken 4 (c .before .before .before .before .args .said .now) (omega arith)
@@ -21,7 +20,7 @@ same-words-requires : tie.Need-same-words-requires
 same-words-requires c κs = search needs
 
 returns-2 : tie.Need-returns-2
-returns-2 c = λ e. let z : _≡_ {A = ℕ} 0 1 = cc in absurd (omega arith)
+returns-2 c = λ e. no-case cc
 
 sub-same-then-kept : tie.Need-sub-same-then-kept
 sub-same-then-kept c = omega arith

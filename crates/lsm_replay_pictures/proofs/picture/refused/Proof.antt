@@ -1,11 +1,10 @@
 -- `lsm_replay_pictures::picture::refused` meets its contract: where all bytes are as they were, `same_front` ensures as many numbers as
 -- the row counts, and `numbers` that this is the row's length. Assumes nothing.
-use Prim.Native.Nat.{ℕ}
 use native.Mathlib.Omega.{arith}
-use mathlib.Core.Path.{_≡_}
 use borrow.Author.Needs.{needs}
 use Rattle.lsm_replay_pictures.proofs.picture.refused.Statement.{statement}
 use Rattle.lsm_replay_pictures.proofs.picture.refused.Tie as tie
+use Rattle.lsm_format.proofs.Apart.{no-case}
 
 numbers-requires : tie.Need-numbers-requires
 numbers-requires c κs = search needs
@@ -14,7 +13,7 @@ kept-bytes-requires : tie.Need-kept-bytes-requires
 kept-bytes-requires c κs = search needs
 
 returns : tie.Need-returns
-returns c = λ e. let z : _≡_ {A = ℕ} 0 1 = cc in absurd (omega arith)
+returns c = λ e. no-case cc
 
 slice-aggregate-same-front : tie.Need-slice-aggregate-same-front
 slice-aggregate-same-front c = search needs

@@ -1,15 +1,13 @@
 -- `lsm_replay_pictures::picture::region_agrees` meets its contract: with fewer than eight numbers the answer is `false`, which owes
 -- nothing. Past that test the eight reads and the part after them lie in the line. Assumes nothing.
-use Prim.Native.Nat.{ℕ}
 use native.Mathlib.Omega.{arith}
-use mathlib.Core.Path.{_≡_}
-use lib.ListN.{length}
 use borrow.Author.Needs.{needs}
 use Rattle.lsm_replay_pictures.proofs.picture.region_agrees.Statement.{statement}
 use Rattle.lsm_replay_pictures.proofs.picture.region_agrees.Tie as tie
+use Rattle.lsm_format.proofs.Apart.{no-case}
 
 returns : tie.Need-returns
-returns c = λ e. let z : _≡_ {A = ℕ} 0 1 = cc in absurd (omega arith)
+returns c = λ e. no-case cc
 
 shared-slice-read-new : tie.Need-shared-slice-read-new
 shared-slice-read-new c = omega arith
