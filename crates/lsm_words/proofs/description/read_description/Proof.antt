@@ -1,13 +1,27 @@
--- `lsm_words::description::read_description` meets its contract. Assumes nothing.
-use mathlib.Core.Path.{sym, ap, _∙_}
+-- `lsm_words::description::read_description` meets its contract: of order, kind, size and block the first that refuses decides (`no-order`
+-- to `no-block`). The other words are numbers and taken as they are (`described-is`); all seventeen are there. Assumes nothing.
+use Rattle.lsm_format.proofs.Told.{told}
 use borrow.Author.Needs.{needs}
 use Rattle.lsm_description.specs.Code.{sampleOf}
 use Rattle.lsm_reader.specs.Header.{headerOf}
-use Rattle.lsm_words.specs.Code.{sizeAnswerOf}
-use Rattle.lsm_words.specs.Code.{blockAnswerOf}
+use Rattle.lsm_words.specs.Code.{sizeAnswerOf, blockAnswerOf}
 use Rattle.lsm_words.proofs.Descriptions.{no-order, no-kind, no-size, no-block, described-is}
 use Rattle.lsm_words.proofs.description.read_description.Statement.{statement}
 use Rattle.lsm_words.proofs.description.read_description.Tie as tie
+
+-- where in the code the order, the kind, the size and the block are known, each seen from the call that reads the next, the last from the
+-- end
+abbrev order : tie.After-kind-of → tie.After-e
+order c = c .before .before .before
+
+abbrev kind : tie.After-size-of → tie.After-k
+kind c = c .before .before .before .before .before .before .before
+
+abbrev size : tie.After-block-of → tie.After-s
+size c = c .before .before .before .before
+
+abbrev block : tie.After-t332 → tie.After-b
+block c = c .before .before .before .before .before .before .before .before .before
 
 element-copy-out-order-of : tie.Need-element-copy-out-order-of
 element-copy-out-order-of c = search needs
@@ -22,7 +36,7 @@ enum-known-r : tie.Need-enum-known-r
 enum-known-r c = search needs
 
 returns : tie.Need-returns
-returns c = no-order _ _ (sym (c .before .before .before .order-of .ensures) ∙ ap headerOf (c .before .r .given .1))
+returns c = no-order _ _ (told headerOf (c .before .before .before .order-of .ensures) (c .before .r .given .1))
 
 element-copy-out-kind-of : tie.Need-element-copy-out-kind-of
 element-copy-out-kind-of c = search needs
@@ -37,7 +51,9 @@ enum-known-r-2 : tie.Need-enum-known-r-2
 enum-known-r-2 c = search needs
 
 returns-2 : tie.Need-returns-2
-returns-2 c = no-kind _ _ (sym (c .before .before .before .before .before .before .before .before .order-of .ensures) ∙ ap headerOf (c .before .before .before .before .before .before .e .given .1)) _ (sym (c .before .before .before .kind-of .ensures) ∙ ap sampleOf (c .before .r2 .given .1))
+returns-2 c =
+    no-kind _ _ (told headerOf (order (c .before .before .before) .before .before .order-of .ensures) (order (c .before .before .before) .e .given .1))
+    _ (told sampleOf (c .before .before .before .kind-of .ensures) (c .before .r2 .given .1))
 
 element-copy-out-size-of : tie.Need-element-copy-out-size-of
 element-copy-out-size-of c = search needs
@@ -64,7 +80,10 @@ enum-known-r-3 : tie.Need-enum-known-r-3
 enum-known-r-3 c = search needs
 
 returns-3 : tie.Need-returns-3
-returns-3 c = no-size _ _ (sym (c .before .before .before .before .before .before .before .before .before .before .before .before .before .before .before .before .before .order-of .ensures) ∙ ap headerOf (c .before .before .before .before .before .before .before .before .before .before .before .before .before .before .before .e .given .1)) _ (sym (c .before .before .before .before .before .before .before .before .before .before .before .before .kind-of .ensures) ∙ ap sampleOf (c .before .before .before .before .before .before .before .before .before .before .k .given .1)) _ (sym (c .before .before .before .size-of .ensures) ∙ ap sizeAnswerOf (c .before .r3 .given .1))
+returns-3 c =
+    no-size _ _ (told headerOf (order (kind (c .before .before .before) .before .before) .before .before .order-of .ensures) (order (kind (c .before .before .before) .before .before) .e .given .1))
+    _ (told sampleOf (kind (c .before .before .before) .before .before .kind-of .ensures) (kind (c .before .before .before) .k .given .1))
+    _ (told sizeAnswerOf (c .before .before .before .size-of .ensures) (c .before .r3 .given .1))
 
 element-copy-out-block-of : tie.Need-element-copy-out-block-of
 element-copy-out-block-of c = search needs
@@ -82,7 +101,11 @@ enum-known-r-4 : tie.Need-enum-known-r-4
 enum-known-r-4 c = search needs
 
 returns-4 : tie.Need-returns-4
-returns-4 c = no-block _ _ (sym (c .before .before .before .before .before .before .before .before .before .before .before .before .before .before .before .before .before .before .before .before .before .before .before .order-of .ensures) ∙ ap headerOf (c .before .before .before .before .before .before .before .before .before .before .before .before .before .before .before .before .before .before .before .before .before .e .given .1)) _ (sym (c .before .before .before .before .before .before .before .before .before .before .before .before .before .before .before .before .before .before .kind-of .ensures) ∙ ap sampleOf (c .before .before .before .before .before .before .before .before .before .before .before .before .before .before .before .before .k .given .1)) _ (sym (c .before .before .before .before .before .before .before .before .before .size-of .ensures) ∙ ap sizeAnswerOf (c .before .before .before .before .before .before .before .s .given .1)) _ (sym (c .before .before .before .block-of .ensures) ∙ ap blockAnswerOf (c .before .r4 .given .1))
+returns-4 c =
+    no-block _ _ (told headerOf (order (kind (size (c .before .before .before) .before .before) .before .before) .before .before .order-of .ensures) (order (kind (size (c .before .before .before) .before .before) .before .before) .e .given .1))
+    _ (told sampleOf (kind (size (c .before .before .before) .before .before) .before .before .kind-of .ensures) (kind (size (c .before .before .before) .before .before) .k .given .1))
+    _ (told sizeAnswerOf (size (c .before .before .before) .before .before .size-of .ensures) (size (c .before .before .before) .s .given .1))
+    _ (told blockAnswerOf (c .before .before .before .block-of .ensures) (c .before .r4 .given .1))
 
 element-copy-out-t36 : tie.Need-element-copy-out-t36
 element-copy-out-t36 c = search needs
@@ -109,7 +132,11 @@ element-copy-out-t33-2 : tie.Need-element-copy-out-t33-2
 element-copy-out-t33-2 c = search needs
 
 returns-5 : tie.Need-returns-5
-returns-5 c = described-is _ _ (sym (c .before .before .before .before .before .before .before .before .before .before .before .before .before .before .before .before .before .before .before .before .before .before .before .before .before .before .before .before .before .before .before .order-of .ensures) ∙ ap headerOf (c .before .before .before .before .before .before .before .before .before .before .before .before .before .before .before .before .before .before .before .before .before .before .before .before .before .before .before .before .before .e .given .1)) _ (sym (c .before .before .before .before .before .before .before .before .before .before .before .before .before .before .before .before .before .before .before .before .before .before .before .before .before .before .kind-of .ensures) ∙ ap sampleOf (c .before .before .before .before .before .before .before .before .before .before .before .before .before .before .before .before .before .before .before .before .before .before .before .before .k .given .1)) _ (sym (c .before .before .before .before .before .before .before .before .before .before .before .before .before .before .before .before .before .size-of .ensures) ∙ ap sizeAnswerOf (c .before .before .before .before .before .before .before .before .before .before .before .before .before .before .before .s .given .1)) _ (sym (c .before .before .before .before .before .before .before .before .before .before .before .block-of .ensures) ∙ ap blockAnswerOf (c .before .before .before .before .before .before .before .before .before .b .given .1))
+returns-5 c =
+    described-is _ _ (told headerOf (order (kind (size (block c .before .before) .before .before) .before .before) .before .before .order-of .ensures) (order (kind (size (block c .before .before) .before .before) .before .before) .e .given .1))
+    _ (told sampleOf (kind (size (block c .before .before) .before .before) .before .before .kind-of .ensures) (kind (size (block c .before .before) .before .before) .k .given .1))
+    _ (told sizeAnswerOf (size (block c .before .before) .before .before .size-of .ensures) (size (block c .before .before) .s .given .1))
+    _ (told blockAnswerOf (block c .before .before .block-of .ensures) (block c .b .given .1))
 
 pub read-description-spec : {M : Type 1} → statement M
 read-description-spec =
