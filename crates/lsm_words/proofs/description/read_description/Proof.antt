@@ -1,10 +1,21 @@
 -- `lsm_words::description::read_description` meets its contract: of order, kind, size and block the first that refuses decides (`no-order`
--- to `no-block`). The other words are numbers and taken as they are (`described-is`); all seventeen are there. Assumes nothing.
-use Rattle.lsm_format.proofs.Told.{told}
+-- to `no-block`). The other words are numbers and taken as they are (`described-is`). The rest is that each word read is inside the array.
+-- Assumes nothing.
+use Prim.Native.Nat.{ℕ}
+use mathlib.Core.Path.{_≡_}
+use mathlib.Core.List.{List}
+use lib.ListN.{getD}
 use borrow.Author.Needs.{needs}
+use Rattle.lsm_format.proofs.Told.{told}
 use Rattle.lsm_description.specs.Code.{sampleOf}
+use Rattle.lsm_description.specs.declared.SampleAnswer.the-variants.{Kind}
+use Rattle.lsm_reader.specs.declared.header.HeaderAnswer.the-variants.{Order}
 use Rattle.lsm_reader.specs.Header.{headerOf}
 use Rattle.lsm_words.specs.Code.{sizeAnswerOf, blockAnswerOf}
+use Rattle.lsm_words.specs.Calibration.{sizeBy}
+use Rattle.lsm_words.specs.Description.{orderBy, kindBy, blockBy}
+use Rattle.lsm_words.specs.declared.sizes.SizeAnswer.the-variants.{Size}
+use Rattle.lsm_words.specs.declared.description.BlockAnswer.the-variants.{Block}
 use Rattle.lsm_words.proofs.Descriptions.{no-order, no-kind, no-size, no-block, described-is}
 use Rattle.lsm_words.proofs.description.read_description.Statement.{statement}
 use Rattle.lsm_words.proofs.description.read_description.Tie as tie
@@ -22,6 +33,34 @@ size c = c .before .before .before .before
 
 abbrev block : tie.After-t332 → tie.After-b
 block c = c .before .before .before .before .before .before .before .before .before
+
+-- the words that the function is lent, seen from there
+abbrev words-e : tie.After-e → List ℕ
+words-e c = c .before .before .before .before .args .words .now
+
+abbrev words-k : tie.After-k → List ℕ
+words-k c = words-e (order (c .before .before))
+
+abbrev words-s : tie.After-s → List ℕ
+words-s c = words-k (kind (c .before .before))
+
+abbrev words-b : tie.After-b → List ℕ
+words-b c = words-s (size (c .before .before))
+
+-- what the definition reads there
+order-is : (c : tie.After-e) → orderBy (getD (words-e c) 0 0) ≡ headerOf (Order (c .e .given .0 .0))
+order-is c = told headerOf (c .before .before .order-of .ensures) (c .e .given .1)
+
+kind-is : (c : tie.After-k) → kindBy (getD (words-k c) 1 0) ≡ sampleOf (Kind (c .k .given .0 .0))
+kind-is c = told sampleOf (c .before .before .kind-of .ensures) (c .k .given .1)
+
+size-is : (c : tie.After-s) →
+    sizeBy (getD (words-s c) 10 0) (getD (words-s c) 11 0) (getD (words-s c) 12 0) (getD (words-s c) 13 0) (getD (words-s c) 14 0)
+    ≡ sizeAnswerOf (Size (c .s .given .0 .0))
+size-is c = told sizeAnswerOf (c .before .before .size-of .ensures) (c .s .given .1)
+
+block-is : (c : tie.After-b) → blockBy (getD (words-b c) 15 0) (getD (words-b c) 16 0) ≡ blockAnswerOf (Block (c .b .given .0 .0))
+block-is c = told blockAnswerOf (c .before .before .block-of .ensures) (c .b .given .1)
 
 element-copy-out-order-of : tie.Need-element-copy-out-order-of
 element-copy-out-order-of c = search needs
@@ -52,8 +91,8 @@ enum-known-r-2 c = search needs
 
 returns-2 : tie.Need-returns-2
 returns-2 c =
-    no-kind _ _ (told headerOf (order (c .before .before .before) .before .before .order-of .ensures) (order (c .before .before .before) .e .given .1))
-    _ (told sampleOf (c .before .before .before .kind-of .ensures) (c .before .r2 .given .1))
+    let e = order (c .before .before .before) in
+    no-kind _ _ (order-is e) _ (told sampleOf (c .before .before .before .kind-of .ensures) (c .before .r2 .given .1))
 
 element-copy-out-size-of : tie.Need-element-copy-out-size-of
 element-copy-out-size-of c = search needs
@@ -81,8 +120,7 @@ enum-known-r-3 c = search needs
 
 returns-3 : tie.Need-returns-3
 returns-3 c =
-    no-size _ _ (told headerOf (order (kind (c .before .before .before) .before .before) .before .before .order-of .ensures) (order (kind (c .before .before .before) .before .before) .e .given .1))
-    _ (told sampleOf (kind (c .before .before .before) .before .before .kind-of .ensures) (kind (c .before .before .before) .k .given .1))
+    no-size _ _ (order-is (order (kind (c .before .before .before) .before .before))) _ (kind-is (kind (c .before .before .before)))
     _ (told sizeAnswerOf (c .before .before .before .size-of .ensures) (c .before .r3 .given .1))
 
 element-copy-out-block-of : tie.Need-element-copy-out-block-of
@@ -102,9 +140,10 @@ enum-known-r-4 c = search needs
 
 returns-4 : tie.Need-returns-4
 returns-4 c =
-    no-block _ _ (told headerOf (order (kind (size (c .before .before .before) .before .before) .before .before) .before .before .order-of .ensures) (order (kind (size (c .before .before .before) .before .before) .before .before) .e .given .1))
-    _ (told sampleOf (kind (size (c .before .before .before) .before .before) .before .before .kind-of .ensures) (kind (size (c .before .before .before) .before .before) .k .given .1))
-    _ (told sizeAnswerOf (size (c .before .before .before) .before .before .size-of .ensures) (size (c .before .before .before) .s .given .1))
+    let s = size (c .before .before .before) in
+    let k = kind (s .before .before) in
+    let e = order (k .before .before) in
+    no-block _ _ (order-is e) _ (kind-is k) _ (size-is s)
     _ (told blockAnswerOf (c .before .before .before .block-of .ensures) (c .before .r4 .given .1))
 
 element-copy-out-t36 : tie.Need-element-copy-out-t36
@@ -133,10 +172,11 @@ element-copy-out-t33-2 c = search needs
 
 returns-5 : tie.Need-returns-5
 returns-5 c =
-    described-is _ _ (told headerOf (order (kind (size (block c .before .before) .before .before) .before .before) .before .before .order-of .ensures) (order (kind (size (block c .before .before) .before .before) .before .before) .e .given .1))
-    _ (told sampleOf (kind (size (block c .before .before) .before .before) .before .before .kind-of .ensures) (kind (size (block c .before .before) .before .before) .k .given .1))
-    _ (told sizeAnswerOf (size (block c .before .before) .before .before .size-of .ensures) (size (block c .before .before) .s .given .1))
-    _ (told blockAnswerOf (block c .before .before .block-of .ensures) (block c .b .given .1))
+    let b = block c in
+    let s = size (b .before .before) in
+    let k = kind (s .before .before) in
+    let e = order (k .before .before) in
+    described-is _ _ (order-is e) _ (kind-is k) _ (size-is s) _ (block-is b)
 
 pub read-description-spec : {M : Type 1} → statement M
 read-description-spec =
