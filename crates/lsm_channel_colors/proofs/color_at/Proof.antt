@@ -1,4 +1,5 @@
--- `lsm_channel_colors::color_at` meets its contract. Assumes nothing.
+-- `lsm_channel_colors::color_at` meets its contract: the two tests say, without a sum that could overflow, whether the word's four bytes
+-- are in the file (`color-past`, `color-there`). Only where they are is a byte read, so the three places are inside. Assumes nothing.
 use native.Mathlib.Omega.{arith}
 use borrow.Author.Needs.{needs}
 use Rattle.lsm_format.proofs.Channels.{color-past, color-there}

@@ -1,4 +1,5 @@
--- `lsm_channel_colors::color_place` meets its contract. Assumes nothing.
+-- `lsm_channel_colors::color_place` meets its contract: where a part of the sum overflows, so does the sum (`word-over`). The last addition
+-- is the sum itself, as the two parts before it are exact (`word-some`). Assumes nothing.
 use Prim.Native.Nat.{ℕ, _+_}
 use native.Mathlib.Omega.{arith}
 use mathlib.Core.Path.{ap₂, sym, _∙_}

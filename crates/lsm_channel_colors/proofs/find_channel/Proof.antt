@@ -1,4 +1,6 @@
--- `lsm_channel_colors::find_channel` meets its contract. Assumes nothing.
+-- `lsm_channel_colors::find_channel` meets its contract, a law for each answer: no block, no pointers, both pointers (`stating-nowhere`,
+-- `stating-unread`, `stating-there`). The pointers are handed on by their bits; that these are the same numbers is `toZ-ofZ`. Assumes
+-- nothing.
 use mathlib.Core.Path.{sym, ap, _∙_}
 use borrow.Author.Needs.{needs}
 use mir.ValLaws.{toZ-ofZ}

@@ -1,4 +1,6 @@
--- `lsm_channel_colors::read_channel` meets its contract. Assumes nothing.
+-- `lsm_channel_colors::read_channel` meets its contract, a law for each answer: no such channel, no name, a name, a name without room
+-- (`looked-outside` to `looked-short`). `read_name` needs the name's bytes in the file, and `find_channel` gives no others (`inside-of`).
+-- Assumes nothing.
 use native.Mathlib.Omega.{arith}
 use borrow.Author.Needs.{needs}
 use Rattle.lsm_channel_colors.proofs.Looked.{inside-of, looked-outside, looked-nameless, looked-named, looked-short}

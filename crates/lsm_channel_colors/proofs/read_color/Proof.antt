@@ -1,4 +1,5 @@
--- `lsm_channel_colors::read_color` meets its contract. Assumes nothing.
+-- `lsm_channel_colors::read_color` meets its contract: a pointer to nothing is no colour (`no-colors`), and any other leads to the colour
+-- at the place that `color_place` gives (`color-is`). A place that overflows is past the end of every file (`color-past`). Assumes nothing.
 use native.Mathlib.Omega.{arith}
 use mathlib.Core.Path.{refl, _∙_}
 use borrow.Author.Needs.{needs}

@@ -1,4 +1,5 @@
--- `lsm_channel_colors::read_name` meets its contract. Assumes nothing.
+-- `lsm_channel_colors::read_name` meets its contract: what is decoded is the name without its trailing zeros (`trimmed-decoding`). Those
+-- bytes are no more than the name's, so the part lies in the file. Assumes nothing.
 use borrow.Author.Needs.{needs}
 use Rattle.lsm_channel_colors.proofs.Looked.{trimmed-decoding}
 use Rattle.lsm_channel_colors.proofs.read_name.Statement.{statement}

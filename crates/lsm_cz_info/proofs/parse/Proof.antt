@@ -14,6 +14,27 @@ use borrow.Author.Needs.{needs}
 use Rattle.lsm_cz_info.proofs.parse.Statement.{statement}
 use Rattle.lsm_cz_info.proofs.parse.Tie as tie
 
+-- the places in the code where each part is known, each seen from the next: the length, the dimensions, the test of them, the voxel sizes,
+-- the channel block's place, the positions and tiles
+abbrev head-of : tie.After-d → tie.After-n
+head-of dims = dims .before .before .before .before
+
+abbrev dims-of : tie.Else1 → tie.After-d
+dims-of test = test .before .before .before
+
+abbrev test-of : tie.After-c → tie.Else1
+test-of sizes = sizes .before .before .before
+
+abbrev sizes-of : tie.After-at → tie.After-c
+sizes-of place = place .before .before .before .before
+
+abbrev place-of : tie.After-s → tie.After-at
+place-of shots = shots .before .before .before .before
+
+-- the test, seen from where the first dimension is taken for the answer
+abbrev tested : tie.After-struct-told → tie.Else1
+tested x = test-of (sizes-of (place-of (x .before .before .before)))
+
 read-header-requires : tie.Need-read-header-requires
 read-header-requires c κs = search needs
 
@@ -49,14 +70,14 @@ is-stated-requires c κs = search needs
 returns-3 : tie.Need-returns-3
 returns-3 c =
     let dims = c .before .before .before in
-    let head = dims .before .before .before .before in
+    let head = head-of dims in
     cz-unstated _ _ _ _ (told lengthOf (head .before .before .read-header .ensures) (head .n .given .1))
     (told extentsOf (dims .before .before .read-extents .ensures) (dims .d .given .1))
     (sym (c .before .is-stated .ensures) ∙ not-true _ (c .if1 .taken))
 
 read-voxels-requires : tie.Need-read-voxels-requires
 read-voxels-requires c κs =
-    let head = c .before .before .before .before .before .before .before in
+    let head = head-of (dims-of c) in
     omega (arith, header-fits _ _ _ _ (told lengthOf (head .before .before .read-header .ensures) (head .n .given .1)))
 
 enum-known-c : tie.Need-enum-known-c
@@ -68,8 +89,8 @@ enum-known-r-3 c = search needs
 returns-4 : tie.Need-returns-4
 returns-4 c =
     let test = c .before .before .before .before in
-    let dims = test .before .before .before in
-    let head = dims .before .before .before .before in
+    let dims = dims-of test in
+    let head = head-of dims in
     cz-voxels _ _ _ _ (told lengthOf (head .before .before .read-header .ensures) (head .n .given .1))
     (told extentsOf (dims .before .before .read-extents .ensures) (dims .d .given .1))
     (sym (test .before .is-stated .ensures) ∙ not-false _ (test .if1 .left))
@@ -77,7 +98,7 @@ returns-4 c =
 
 read-channel-block-requires : tie.Need-read-channel-block-requires
 read-channel-block-requires c κs =
-    let head = c .before .before .before .before .before .before .before .before .before .before .before in
+    let head = head-of (dims-of (test-of (c .before))) in
     omega (arith, header-fits _ _ _ _ (told lengthOf (head .before .before .read-header .ensures) (head .n .given .1)))
 
 enum-known-at : tie.Need-enum-known-at
@@ -89,9 +110,9 @@ enum-known-r-4 c = search needs
 returns-5 : tie.Need-returns-5
 returns-5 c =
     let sizes = c .before .before .before .before .before in
-    let test = sizes .before .before .before in
-    let dims = test .before .before .before in
-    let head = dims .before .before .before .before in
+    let test = test-of sizes in
+    let dims = dims-of test in
+    let head = head-of dims in
     cz-channel _ _ _ _ (told lengthOf (head .before .before .read-header .ensures) (head .n .given .1))
     (told extentsOf (dims .before .before .read-extents .ensures) (dims .d .given .1))
     (sym (test .before .is-stated .ensures) ∙ not-false _ (test .if1 .left))
@@ -100,7 +121,7 @@ returns-5 c =
 
 read-shots-requires : tie.Need-read-shots-requires
 read-shots-requires c κs =
-    let head = c .before .before .before .before .before .before .before .before .before .before .before .before .before .before .before in
+    let head = head-of (dims-of (test-of (sizes-of (c .before)))) in
     omega (arith, header-fits _ _ _ _ (told lengthOf (head .before .before .read-header .ensures) (head .n .given .1)))
 
 enum-known-s : tie.Need-enum-known-s
@@ -112,10 +133,10 @@ enum-known-r-5 c = search needs
 returns-6 : tie.Need-returns-6
 returns-6 c =
     let place = c .before .before .before .before .before in
-    let sizes = place .before .before .before .before in
-    let test = sizes .before .before .before in
-    let dims = test .before .before .before in
-    let head = dims .before .before .before .before in
+    let sizes = sizes-of place in
+    let test = test-of sizes in
+    let dims = dims-of test in
+    let head = head-of dims in
     cz-shots _ _ _ _ (told lengthOf (head .before .before .read-header .ensures) (head .n .given .1))
     (told extentsOf (dims .before .before .read-extents .ensures) (dims .d .given .1))
     (sym (test .before .is-stated .ensures) ∙ not-false _ (test .if1 .left))
@@ -125,52 +146,58 @@ returns-6 c =
 
 cast-t33 : tie.Need-cast-t33
 cast-t33 c =
-    let test = c .before .before .before .before .before .before .before .before .before .before .before .before .before .before in
-    let d = test .before .before .before .d .given .0 .0 in
+    let test = tested c in
+    let d = dims-of test .d .given .0 .0 in
     let n = stated-natural (statedOf d) (sym (test .before .is-stated .ensures) ∙ not-false _ (test .if1 .left)) in
     let t = c .struct-told .given .0 .1 in
     rw (back (d .x) t) (natural-nonneg (d .x) (n .x), record { fits = omega (arith, natAbs-le (d .x) t) })
 
 cast-t34 : tie.Need-cast-t34
 cast-t34 c =
-    let test = c .before .before .before .before .before .before .before .before .before .before .before .before .before .before .before .before in
-    let d = test .before .before .before .d .given .0 .0 in
+    let test = tested (c .before .before) in
+    let d = dims-of test .d .given .0 .0 in
     let n = stated-natural (statedOf d) (sym (test .before .is-stated .ensures) ∙ not-false _ (test .if1 .left)) in
     let t = c .struct-told2 .given .1 .0 .1 in
     rw (back (d .y) t) (natural-nonneg (d .y) (n .y), record { fits = omega (arith, natAbs-le (d .y) t) })
 
 cast-t35 : tie.Need-cast-t35
 cast-t35 c =
-    let test = c .before .before .before .before .before .before .before .before .before .before .before .before .before .before .before .before .before .before in
-    let d = test .before .before .before .d .given .0 .0 in
+    let test = tested (c .before .before .before .before) in
+    let d = dims-of test .d .given .0 .0 in
     let n = stated-natural (statedOf d) (sym (test .before .is-stated .ensures) ∙ not-false _ (test .if1 .left)) in
     let t = c .struct-told3 .given .1 .1 .0 .1 in
     rw (back (d .z) t) (natural-nonneg (d .z) (n .z), record { fits = omega (arith, natAbs-le (d .z) t) })
 
 cast-t36 : tie.Need-cast-t36
 cast-t36 c =
-    let test = c .before .before .before .before .before .before .before .before .before .before .before .before .before .before .before .before .before .before .before .before in
-    let d = test .before .before .before .d .given .0 .0 in
+    let test = tested (c .before .before .before .before .before .before) in
+    let d = dims-of test .d .given .0 .0 in
     let n = stated-natural (statedOf d) (sym (test .before .is-stated .ensures) ∙ not-false _ (test .if1 .left)) in
     let t = c .struct-told4 .given .1 .1 .1 .0 .1 in
     rw (back (d .channels) t) (natural-nonneg (d .channels) (n .channels), record { fits = omega (arith, natAbs-le (d .channels) t) })
 
 cast-t37 : tie.Need-cast-t37
 cast-t37 c =
-    let test = c .before .before .before .before .before .before .before .before .before .before .before .before .before .before .before .before .before .before .before .before .before .before in
-    let d = test .before .before .before .d .given .0 .0 in
+    let z = c .before .before .before .before in
+    let test = tested (z .before .before .before .before) in
+    let d = dims-of test .d .given .0 .0 in
     let n = stated-natural (statedOf d) (sym (test .before .is-stated .ensures) ∙ not-false _ (test .if1 .left)) in
     let t = c .struct-told5 .given .1 .1 .1 .1 .0 .1 in
     rw (back (d .time) t) (natural-nonneg (d .time) (n .time), record { fits = omega (arith, natAbs-le (d .time) t) })
 
 returns-7 : tie.Need-returns-7
 returns-7 c =
-    let shots = c .before .before .before .before .before .before .before .before .before .before .before .before in
-    let place = shots .before .before .before .before in
-    let sizes = place .before .before .before .before in
-    let test = sizes .before .before .before in
-    let dims = test .before .before .before in
-    let head = dims .before .before .before .before in
+    let time = c .before in
+    let channels = time .before .before in
+    let z = channels .before .before in
+    let y = z .before .before in
+    let x = y .before .before in
+    let shots = x .before .before .before in
+    let place = place-of shots in
+    let sizes = sizes-of place in
+    let test = test-of sizes in
+    let dims = dims-of test in
+    let head = head-of dims in
     let d = dims .d .given .0 .0 in
     let s = shots .s .given .0 .0 in
     let n = stated-natural (statedOf d) (sym (test .before .is-stated .ensures) ∙ not-false _ (test .if1 .left)) in
@@ -180,11 +207,11 @@ returns-7 c =
     (told voxelsOf (sizes .before .before .read-voxels .ensures) (sizes .c .given .1))
     (told channelOf (place .before .before .read-channel-block .ensures) (place .at .given .1))
     (told shotsOf (shots .before .before .read-shots .ensures) (shots .s .given .1))
-    (ap natAbs (back (d .x) (c .before .before .before .before .before .before .before .before .before .struct-told .given .0 .1)) ∙ natural-size (d .x) (n .x))
-    (ap natAbs (back (d .y) (c .before .before .before .before .before .before .before .struct-told2 .given .1 .0 .1)) ∙ natural-size (d .y) (n .y))
-    (ap natAbs (back (d .z) (c .before .before .before .before .before .struct-told3 .given .1 .1 .0 .1)) ∙ natural-size (d .z) (n .z))
-    (ap natAbs (back (d .channels) (c .before .before .before .struct-told4 .given .1 .1 .1 .0 .1)) ∙ natural-size (d .channels) (n .channels))
-    (ap natAbs (back (d .time) (c .before .struct-told5 .given .1 .1 .1 .1 .0 .1)) ∙ natural-size (d .time) (n .time))
+    (ap natAbs (back (d .x) (x .struct-told .given .0 .1)) ∙ natural-size (d .x) (n .x))
+    (ap natAbs (back (d .y) (y .struct-told2 .given .1 .0 .1)) ∙ natural-size (d .y) (n .y))
+    (ap natAbs (back (d .z) (z .struct-told3 .given .1 .1 .0 .1)) ∙ natural-size (d .z) (n .z))
+    (ap natAbs (back (d .channels) (channels .struct-told4 .given .1 .1 .1 .0 .1)) ∙ natural-size (d .channels) (n .channels))
+    (ap natAbs (back (d .time) (time .struct-told5 .given .1 .1 .1 .1 .0 .1)) ∙ natural-size (d .time) (n .time))
     (back (s .p) (c .struct-told6 .given .0 .1))
     (back (s .m) (c .struct-told6 .given .1 .0 .1))
 

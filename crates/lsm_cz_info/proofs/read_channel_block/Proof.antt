@@ -1,4 +1,5 @@
--- `lsm_cz_info::read_channel_block` meets its contract. Assumes nothing.
+-- `lsm_cz_info::read_channel_block` meets its contract: a block too short for the place has none (`from-short`), and of a longer one the
+-- read decides (`from-long`). The number that was read goes to `placed` by its bits (`back`). Assumes nothing.
 use mathlib.Core.Path.{ap, _∙_}
 use Rattle.lsm_format.specs.CzInfo.{place}
 use Rattle.lsm_bytes.specs.Code.{i32Of}

@@ -1,4 +1,6 @@
--- `lsm_cz_info::read_extents` meets its contract. Assumes nothing.
+-- `lsm_cz_info::read_extents` meets its contract: the first of the five reads that refuses decides (`extents-no-x` to `extents-no-time`),
+-- and five numbers are the record (`extents-is`). The 28 bytes that the function requires keep every place in 64 bits; the numbers go by
+-- their bits (`back`). Assumes nothing.
 use Rattle.lsm_bytes.specs.Code.{i32Of}
 use Rattle.lsm_format.proofs.CzInfo.{extents-no-x, extents-no-y, extents-no-z, extents-no-channels, extents-no-time, extents-is}
 use Rattle.lsm_format.proofs.Told.{told, back}

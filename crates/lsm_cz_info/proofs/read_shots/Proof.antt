@@ -1,4 +1,6 @@
--- `lsm_cz_info::read_shots` meets its contract. Assumes nothing.
+-- `lsm_cz_info::read_shots` meets its contract: a block too short for the two counts has one of each (`from-short`), and of a longer one
+-- the first read that refuses decides (`from-long`, with `shots-no-p`, `shots-no-m`, `shots-is`). The counts go by their bits (`back`).
+-- Assumes nothing.
 use Rattle.lsm_bytes.specs.Code.{i32Of}
 use Rattle.lsm_format.proofs.CzInfo.{from-short, from-long, shots-no-p, shots-no-m, shots-is}
 use Rattle.lsm_format.proofs.Told.{told, back}

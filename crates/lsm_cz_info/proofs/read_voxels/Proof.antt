@@ -1,4 +1,6 @@
--- `lsm_cz_info::read_voxels` meets its contract. Assumes nothing.
+-- `lsm_cz_info::read_voxels` meets its contract: a block too short for the sizes is uncalibrated (`from-short`), and of a longer one the
+-- first read that refuses decides (`from-long`, with `voxels-no-x` to `voxels-no-z`). Three sizes are what `calibrate` makes of them
+-- (`voxels-is`). Assumes nothing.
 use Rattle.lsm_bytes.specs.Code.{f64BitsOf}
 use Rattle.lsm_format.proofs.CzInfo.{from-short, from-long, voxels-no-x, voxels-no-y, voxels-no-z, voxels-is}
 use Rattle.lsm_format.proofs.Told.{told}

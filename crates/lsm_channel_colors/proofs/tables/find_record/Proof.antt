@@ -1,4 +1,5 @@
--- `lsm_channel_colors::tables::find_record` meets its contract: the record of the channel from the first place is that of the channels left from here. Assumes nothing.
+-- `lsm_channel_colors::tables::find_record` meets its contract: the record of the channel from the first place is that of the channels left
+-- from here. Assumes nothing.
 use native.Mathlib.Omega.{arith}
 use mathlib.Core.Path.{_≡_, refl, sym, ap, _∙_}
 use borrow.Author.Needs.{needs}

@@ -1,4 +1,6 @@
--- `lsm_channel_colors::tables::name_record` meets its contract. Assumes nothing.
+-- `lsm_channel_colors::tables::name_record` meets its contract, a law for each answer: no length, a negative one, a name past the end, a
+-- name (`record-unread`, `no-length`, `record-past`, `record-there`). A length that was read has its four bytes in the file
+-- (`signed-there`); so the name's start fits, and the subtraction after it too. Assumes nothing.
 use native.Mathlib.Omega.{arith}
 use mathlib.Core.Path.{ap, _∙_}
 use borrow.Author.Needs.{needs}

@@ -1,4 +1,6 @@
--- `lsm_channel_colors::tables::read_pointers` meets its contract. Assumes nothing.
+-- `lsm_channel_colors::tables::read_pointers` meets its contract: the two tests say, without a sum that could overflow, whether the eight
+-- bytes are in the file (`pointers-past`). Past them the places fit, and each read answers for itself (`pointers-first`, `pointers-second`,
+-- `pointers-there`). Assumes nothing.
 use native.Mathlib.Omega.{arith}
 use borrow.Author.Needs.{needs}
 use mir.ValLaws.{toZ-ofZ}

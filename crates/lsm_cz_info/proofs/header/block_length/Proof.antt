@@ -1,4 +1,6 @@
--- `lsm_cz_info::header::block_length` meets its contract. Assumes nothing.
+-- `lsm_cz_info::header::block_length` meets its contract, a law for each answer (`length-declared`, `length-stated`, `length-smaller`). The
+-- size goes by its bits, which are the same number (`toZ-ofZ`); past the first test it is above 0, as the cast to `u32` needs. Assumes
+-- nothing.
 use native.Mathlib.Omega.{arith}
 use lib.Signed.{natAbs-le}
 use mir.ValLaws.{toZ-ofZ}

@@ -1,4 +1,5 @@
--- `lsm_words::answers::channel_words` meets its contract. Assumes nothing.
+-- `lsm_words::answers::channel_words` meets its contract: what was found is the colour's words and the name's, put together one by one
+-- (`channel-is`), and a refusal is what `channel_refusal` ensures. The rest is that each word read is inside its array. Assumes nothing.
 use borrow.Author.Needs.{needs}
 use Rattle.lsm_words.proofs.Answered.{channel-is}
 use Rattle.lsm_words.proofs.answers.channel_words.Statement.{statement}

@@ -1,4 +1,5 @@
--- `lsm_words::answers::open_refusal` meets its contract. Assumes nothing.
+-- `lsm_words::answers::open_refusal` meets its contract: the row's five numbers, written over zeros, are the row with zeros after it
+-- (`row-words`). The rest is that each place read or written is inside its array. Assumes nothing.
 use borrow.Author.Needs.{needs}
 use Rattle.lsm_words.specs.Answers.{openLength}
 use Rattle.lsm_words.proofs.Answered.{row-words}

@@ -1,4 +1,5 @@
--- `lsm_words::sizes::size_words` meets its contract. Assumes nothing.
+-- `lsm_words::sizes::size_words` meets its contract: without a calibration the definition computes, and with one the words are what
+-- `float_word` and `step_words` ensure, put together one by one (`size-is`). Assumes nothing.
 use borrow.Author.Needs.{needs}
 use Rattle.lsm_words.specs.Calibration.{sizeWords}
 use Rattle.lsm_words.proofs.Calibrations.{size-is}

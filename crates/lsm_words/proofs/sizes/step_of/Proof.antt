@@ -1,4 +1,6 @@
--- `lsm_words::sizes::step_of` meets its contract. Assumes nothing.
+-- `lsm_words::sizes::step_of` meets its contract: a choice above 3 is none (`none-chosen`), and for 1 the definition computes. The other
+-- three hang on the float, whose refusal is theirs (`step-refused`); the last arm is 3, as the tests before it leave nothing else
+-- (`step-large`). Assumes nothing.
 use native.Mathlib.Omega.{arith}
 use mathlib.Core.Path.{sym, ap, _∙_}
 use borrow.Author.Needs.{needs}

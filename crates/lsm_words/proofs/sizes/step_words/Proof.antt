@@ -1,4 +1,5 @@
--- `lsm_words::sizes::step_words` meets its contract. Assumes nothing.
+-- `lsm_words::sizes::step_words` meets its contract: for each kind of step the definition computes, and the word of its bits, where it has
+-- any, is what `float_word` ensures. Assumes nothing.
 use borrow.Author.Needs.{needs}
 use Rattle.lsm_words.specs.Calibration.{stepWords}
 use Rattle.lsm_words.proofs.sizes.step_words.Statement.{statement}

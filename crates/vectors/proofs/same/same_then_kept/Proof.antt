@@ -1,4 +1,6 @@
--- `vectors::same::same_then_kept` meets its contract. Assumes nothing.
+-- `vectors::same::same_then_kept` meets its contract: too few bytes or other ones are a no (`then-not`), and after the same ones
+-- `kept_bytes` decides (`then-kept`). The contract's second part speaks of a yes alone; there the comparison gives the length
+-- (`front-length`). Assumes nothing.
 use native.Mathlib.Omega.{arith}
 use mathlib.Core.Bool.{false≢true}
 use mathlib.Core.Path.{sym, _∙_}

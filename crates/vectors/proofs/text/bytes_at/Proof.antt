@@ -18,6 +18,10 @@ Inv-loop text from bytes₀ at₀ n₀ bytes at n =
 abbrev μ-loop : tie.MeasureT-loop
 μ-loop text from bytes₀ at₀ n₀ bytes at n = length bytes₀ - n
 
+-- the run that a round has read, seen from the round's end
+abbrev run-of : tie.After-struct-known4 Inv-loop μ-loop → tie.After-run-at Inv-loop μ-loop
+run-of c = c .before .before .before .before .before .before .before .before .before .before
+
 returns : tie.Need-returns Inv-loop μ-loop
 returns c = (read-none _ (bytes-past _ _ _ (omega arith)), (search needs, (omega arith, λ h. absurd (omega arith))))
 
@@ -60,9 +64,9 @@ loop-less c = search needs
 
 loop-again : tie.Need-loop-again Inv-loop μ-loop
 loop-again c =
-    let run = c .before .before .before .before .before .before .before .before .before .before .run-at in
+    let run = run-of c .run-at in
     let filled = c .before .before .before .fill .ensures in (
-      run-more (run .result .times) (run .result .byte) (c .before .before .before .before .before .before .before .before .before .before .before .before .loop .inv .0) (bytes-more _ _ _ _ (run .result .times) (run .result .byte) _ (run .ensures .0) (omega arith) (omega arith) (omega arith)) (omega arith) (omega arith) (omega arith)
+      run-more (run .result .times) (run .result .byte) (run-of c .before .before .loop .inv .0) (bytes-more _ _ _ _ (run .result .times) (run .result .byte) _ (run .ensures .0) (omega arith) (omega arith) (omega arith)) (omega arith) (omega arith) (omega arith)
           (filled .0) (filled .1),
       omega arith,
       omega arith,

@@ -1,4 +1,6 @@
--- `vectors::text::line_at` meets its contract. Assumes nothing.
+-- `vectors::text::line_at` meets its contract: past the text there is no line, and elsewhere the test of the line feed at its end says
+-- whether a line is whole or not (`line-whole`, `line-broken`). What is in lent memory is what the two readers ensure (`numbers-of`,
+-- `bytes-of`); a line feed that is there is inside the text, so the next place is too. Assumes nothing.
 use native.Mathlib.Omega.{arith}
 use mathlib.Core.Path.{refl, sym, _∙_}
 use borrow.Author.Needs.{needs}
@@ -8,6 +10,10 @@ use Rattle.vectors.proofs.Digits.{outside}
 use Rattle.vectors.proofs.Lines.{numbers-of, bytes-of, numbers-none, bytes-none, line-whole, line-broken}
 use Rattle.vectors.proofs.text.line_at.Statement.{statement}
 use Rattle.vectors.proofs.text.line_at.Tie as tie
+
+-- where the numbers are read, seen from the test of the line feed
+abbrev numbers-read : tie.After-holds → tie.After-numbers-at
+numbers-read c = c .before .before .before .before .before .before .before
 
 returns : tie.Need-returns
 returns c =
@@ -44,7 +50,7 @@ same-length-2 c = search needs
 
 returns-2 : tie.Need-returns-2
 returns-2 c =
-    let n = numbers-of _ _ _ (c .before .before .before .before .before .before .before .before .numbers-at .ensures .0) in
+    let n = numbers-of _ _ _ (numbers-read (c .before) .numbers-at .ensures .0) in
     let r = bytes-of _ _ _ _ n (c .before .before .before .before .tail-at .ensures .0) in
     (line-broken _ _ _ _ n r _ refl (sym (c .before .holds .ensures .0) ∙ not-true _ (c .if2 .taken)), (n .memory, (r .memory, search needs)))
 
@@ -59,7 +65,7 @@ same-length-4 c = search needs
 
 returns-3 : tie.Need-returns-3
 returns-3 c =
-    let numbers = c .before .before .before .before .before .before .before .before .before .numbers-at .ensures in
+    let numbers = numbers-read (c .before .before) .numbers-at .ensures in
     let tail = c .before .before .before .before .before .tail-at .ensures in
     let holds = c .before .before .holds .ensures in
     let feed = not-false _ (c .before .if2 .left) in

@@ -1,4 +1,6 @@
--- `vectors::text::pair` meets its contract. Assumes nothing.
+-- `vectors::text::pair` meets its contract: the two tests say, without a sum that could overflow, whether both digits are in the text
+-- (`pair-past`). Then the digits decide (`pair-high`, `pair-low`, `pair-is`); two of them make less than 256, so no step overflows. Assumes
+-- nothing.
 use native.Mathlib.Omega.{arith}
 use borrow.Author.Needs.{needs}
 use Rattle.vectors.proofs.Lines.{pair-past, pair-is, pair-high, pair-low}
