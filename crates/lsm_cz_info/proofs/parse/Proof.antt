@@ -1,12 +1,23 @@
 -- `lsm_cz_info::parse` meets its contract, by the part that refuses. A block that is taken lies in the file, so its parts may be read.
 -- Assumes nothing.
 use native.Mathlib.Omega.{arith}
-use mathlib.Core.Path.{sym, ap, _∙_}
+use Prim.Native.Nat.{ℕ}
+use mathlib.Core.Bool.{true}
+use mathlib.Core.Option.{none}
+use mathlib.Core.List.{List}
+use mathlib.Core.Path.{_≡_, sym, ap, _∙_}
+use lib.Dec.{leb}
 use lib.IntN.{natAbs}
 use lib.Signed.{natAbs-le}
 use borrow.Author.Tests.{not-true, not-false}
 use Rattle.lsm_cz_info.specs.Header.{lengthOf}
 use Rattle.lsm_cz_info.specs.Code.{statedOf, extentsOf, voxelsOf, channelOf, shotsOf}
+use Rattle.lsm_format.specs.Answer.{accepted}
+use Rattle.lsm_format.specs.Calibration.{uncalibrated}
+use Rattle.lsm_format.specs.Code.{orderOf, blockOf}
+use Rattle.lsm_format.specs.CzInfo.{header, extents, stated, voxels, channelBlock, from}
+use Rattle.lsm_format.specs.Numbers.{Order}
+use Rattle.calibration.specs.Calibrated.{calibrationOf}
 use Rattle.lsm_format.proofs.CzInfo.{natural-nonneg, natural-size, stated-natural, header-fits}
 use Rattle.lsm_format.proofs.CzInfo.{cz-header, cz-extents, cz-unstated, cz-voxels, cz-channel, cz-shots, cz-is}
 use Rattle.lsm_format.proofs.Told.{told, back}
@@ -35,6 +46,42 @@ place-of shots = shots .before .before .before .before
 abbrev tested : tie.After-struct-told → tie.Else1
 tested x = test-of (sizes-of (place-of (x .before .before .before)))
 
+-- what the definitions are asked with: the order, the file, the block's place, and its length once that is known
+abbrev start : tie.After-n → tie.Start
+start head = head .before .before .before .before
+
+abbrev order : tie.After-n → Order
+order head = orderOf (start head .args .e)
+
+abbrev file : tie.After-n → List ℕ
+file head = start head .args .buf .now
+
+abbrev block : tie.After-n → ℕ
+block head = start head .args .tag .offset
+
+abbrev bytes : tie.After-n → ℕ
+bytes head = head .n .given .0 .0
+
+-- and what they answer
+header-is : (head : tie.After-n) →
+    header (order head) (file head) (block head) (start head .args .tag .«declared_bytes») ≡ accepted (bytes head)
+header-is head = told lengthOf (head .before .before .read-header .ensures) (head .n .given .1)
+
+dims-is : (dims : tie.After-d) → let head = head-of dims in
+    extents (order head) (file head) (block head) ≡ accepted (statedOf (dims .d .given .0 .0))
+dims-is dims = told extentsOf (dims .before .before .read-extents .ensures) (dims .d .given .1)
+
+test-is : (test : tie.Else1) → stated (statedOf (dims-of test .d .given .0 .0)) ≡ true
+test-is test = sym (test .before .is-stated .ensures) ∙ not-false _ (test .if1 .left)
+
+sizes-is : (sizes : tie.After-c) → let head = head-of (dims-of (test-of sizes)) in
+    from (leb 64 (bytes head)) (voxels (order head) (file head) (block head)) uncalibrated ≡ accepted (calibrationOf (sizes .c .given .0 .0))
+sizes-is sizes = told voxelsOf (sizes .before .before .read-voxels .ensures) (sizes .c .given .1)
+
+place-is : (place : tie.After-at) → let head = head-of (dims-of (test-of (sizes-of place))) in
+    from (leb 112 (bytes head)) (channelBlock (order head) (file head) (block head)) none ≡ accepted (blockOf (place .at .given .0 .0))
+place-is place = told channelOf (place .before .before .read-channel-block .ensures) (place .at .given .1)
+
 read-header-requires : tie.Need-read-header-requires
 read-header-requires c κs = search needs
 
@@ -50,7 +97,7 @@ returns c = cz-header _ _ _ _ (told lengthOf (c .before .before .before .read-he
 read-extents-requires : tie.Need-read-extents-requires
 read-extents-requires c κs =
     let head = c .before in
-    omega (arith, header-fits _ _ _ _ (told lengthOf (head .before .before .read-header .ensures) (head .n .given .1)))
+    omega (arith, header-fits _ _ _ _ (header-is head))
 
 enum-known-d : tie.Need-enum-known-d
 enum-known-d c = search needs
@@ -61,7 +108,7 @@ enum-known-r-2 c = search needs
 returns-2 : tie.Need-returns-2
 returns-2 c =
     let head = c .before .before .before .before .before in
-    cz-extents _ _ _ _ (told lengthOf (head .before .before .read-header .ensures) (head .n .given .1))
+    cz-extents _ _ _ _ (header-is head)
     (told extentsOf (c .before .before .before .read-extents .ensures) (c .before .r2 .given .1))
 
 is-stated-requires : tie.Need-is-stated-requires
@@ -71,14 +118,13 @@ returns-3 : tie.Need-returns-3
 returns-3 c =
     let dims = c .before .before .before in
     let head = head-of dims in
-    cz-unstated _ _ _ _ (told lengthOf (head .before .before .read-header .ensures) (head .n .given .1))
-    (told extentsOf (dims .before .before .read-extents .ensures) (dims .d .given .1))
+    cz-unstated _ _ _ _ (header-is head) (dims-is dims)
     (sym (c .before .is-stated .ensures) ∙ not-true _ (c .if1 .taken))
 
 read-voxels-requires : tie.Need-read-voxels-requires
 read-voxels-requires c κs =
     let head = head-of (dims-of c) in
-    omega (arith, header-fits _ _ _ _ (told lengthOf (head .before .before .read-header .ensures) (head .n .given .1)))
+    omega (arith, header-fits _ _ _ _ (header-is head))
 
 enum-known-c : tie.Need-enum-known-c
 enum-known-c c = search needs
@@ -91,15 +137,13 @@ returns-4 c =
     let test = c .before .before .before .before in
     let dims = dims-of test in
     let head = head-of dims in
-    cz-voxels _ _ _ _ (told lengthOf (head .before .before .read-header .ensures) (head .n .given .1))
-    (told extentsOf (dims .before .before .read-extents .ensures) (dims .d .given .1))
-    (sym (test .before .is-stated .ensures) ∙ not-false _ (test .if1 .left))
+    cz-voxels _ _ _ _ (header-is head) (dims-is dims) (test-is test)
     (told voxelsOf (c .before .before .before .read-voxels .ensures) (c .before .r3 .given .1))
 
 read-channel-block-requires : tie.Need-read-channel-block-requires
 read-channel-block-requires c κs =
     let head = head-of (dims-of (test-of (c .before))) in
-    omega (arith, header-fits _ _ _ _ (told lengthOf (head .before .before .read-header .ensures) (head .n .given .1)))
+    omega (arith, header-fits _ _ _ _ (header-is head))
 
 enum-known-at : tie.Need-enum-known-at
 enum-known-at c = search needs
@@ -113,16 +157,13 @@ returns-5 c =
     let test = test-of sizes in
     let dims = dims-of test in
     let head = head-of dims in
-    cz-channel _ _ _ _ (told lengthOf (head .before .before .read-header .ensures) (head .n .given .1))
-    (told extentsOf (dims .before .before .read-extents .ensures) (dims .d .given .1))
-    (sym (test .before .is-stated .ensures) ∙ not-false _ (test .if1 .left))
-    (told voxelsOf (sizes .before .before .read-voxels .ensures) (sizes .c .given .1))
+    cz-channel _ _ _ _ (header-is head) (dims-is dims) (test-is test) (sizes-is sizes)
     (told channelOf (c .before .before .before .read-channel-block .ensures) (c .before .r4 .given .1))
 
 read-shots-requires : tie.Need-read-shots-requires
 read-shots-requires c κs =
     let head = head-of (dims-of (test-of (sizes-of (c .before)))) in
-    omega (arith, header-fits _ _ _ _ (told lengthOf (head .before .before .read-header .ensures) (head .n .given .1)))
+    omega (arith, header-fits _ _ _ _ (header-is head))
 
 enum-known-s : tie.Need-enum-known-s
 enum-known-s c = search needs
@@ -137,18 +178,14 @@ returns-6 c =
     let test = test-of sizes in
     let dims = dims-of test in
     let head = head-of dims in
-    cz-shots _ _ _ _ (told lengthOf (head .before .before .read-header .ensures) (head .n .given .1))
-    (told extentsOf (dims .before .before .read-extents .ensures) (dims .d .given .1))
-    (sym (test .before .is-stated .ensures) ∙ not-false _ (test .if1 .left))
-    (told voxelsOf (sizes .before .before .read-voxels .ensures) (sizes .c .given .1))
-    (told channelOf (place .before .before .read-channel-block .ensures) (place .at .given .1))
+    cz-shots _ _ _ _ (header-is head) (dims-is dims) (test-is test) (sizes-is sizes) (place-is place)
     (told shotsOf (c .before .before .before .read-shots .ensures) (c .before .r5 .given .1))
 
 cast-t33 : tie.Need-cast-t33
 cast-t33 c =
     let test = tested c in
     let d = dims-of test .d .given .0 .0 in
-    let n = stated-natural (statedOf d) (sym (test .before .is-stated .ensures) ∙ not-false _ (test .if1 .left)) in
+    let n = stated-natural (statedOf d) (test-is test) in
     let t = c .struct-told .given .0 .1 in
     rw (back (d .x) t) (natural-nonneg (d .x) (n .x), record { fits = omega (arith, natAbs-le (d .x) t) })
 
@@ -156,7 +193,7 @@ cast-t34 : tie.Need-cast-t34
 cast-t34 c =
     let test = tested (c .before .before) in
     let d = dims-of test .d .given .0 .0 in
-    let n = stated-natural (statedOf d) (sym (test .before .is-stated .ensures) ∙ not-false _ (test .if1 .left)) in
+    let n = stated-natural (statedOf d) (test-is test) in
     let t = c .struct-told2 .given .1 .0 .1 in
     rw (back (d .y) t) (natural-nonneg (d .y) (n .y), record { fits = omega (arith, natAbs-le (d .y) t) })
 
@@ -164,7 +201,7 @@ cast-t35 : tie.Need-cast-t35
 cast-t35 c =
     let test = tested (c .before .before .before .before) in
     let d = dims-of test .d .given .0 .0 in
-    let n = stated-natural (statedOf d) (sym (test .before .is-stated .ensures) ∙ not-false _ (test .if1 .left)) in
+    let n = stated-natural (statedOf d) (test-is test) in
     let t = c .struct-told3 .given .1 .1 .0 .1 in
     rw (back (d .z) t) (natural-nonneg (d .z) (n .z), record { fits = omega (arith, natAbs-le (d .z) t) })
 
@@ -172,7 +209,7 @@ cast-t36 : tie.Need-cast-t36
 cast-t36 c =
     let test = tested (c .before .before .before .before .before .before) in
     let d = dims-of test .d .given .0 .0 in
-    let n = stated-natural (statedOf d) (sym (test .before .is-stated .ensures) ∙ not-false _ (test .if1 .left)) in
+    let n = stated-natural (statedOf d) (test-is test) in
     let t = c .struct-told4 .given .1 .1 .1 .0 .1 in
     rw (back (d .channels) t) (natural-nonneg (d .channels) (n .channels), record { fits = omega (arith, natAbs-le (d .channels) t) })
 
@@ -181,7 +218,7 @@ cast-t37 c =
     let z = c .before .before .before .before in
     let test = tested (z .before .before .before .before) in
     let d = dims-of test .d .given .0 .0 in
-    let n = stated-natural (statedOf d) (sym (test .before .is-stated .ensures) ∙ not-false _ (test .if1 .left)) in
+    let n = stated-natural (statedOf d) (test-is test) in
     let t = c .struct-told5 .given .1 .1 .1 .1 .0 .1 in
     rw (back (d .time) t) (natural-nonneg (d .time) (n .time), record { fits = omega (arith, natAbs-le (d .time) t) })
 
@@ -200,12 +237,8 @@ returns-7 c =
     let head = head-of dims in
     let d = dims .d .given .0 .0 in
     let s = shots .s .given .0 .0 in
-    let n = stated-natural (statedOf d) (sym (test .before .is-stated .ensures) ∙ not-false _ (test .if1 .left)) in
-    cz-is _ _ _ _ (told lengthOf (head .before .before .read-header .ensures) (head .n .given .1))
-    (told extentsOf (dims .before .before .read-extents .ensures) (dims .d .given .1))
-    (sym (test .before .is-stated .ensures) ∙ not-false _ (test .if1 .left))
-    (told voxelsOf (sizes .before .before .read-voxels .ensures) (sizes .c .given .1))
-    (told channelOf (place .before .before .read-channel-block .ensures) (place .at .given .1))
+    let n = stated-natural (statedOf d) (test-is test) in
+    cz-is _ _ _ _ (header-is head) (dims-is dims) (test-is test) (sizes-is sizes) (place-is place)
     (told shotsOf (shots .before .before .read-shots .ensures) (shots .s .given .1))
     (ap natAbs (back (d .x) (x .struct-told .given .0 .1)) ∙ natural-size (d .x) (n .x))
     (ap natAbs (back (d .y) (y .struct-told2 .given .1 .0 .1)) ∙ natural-size (d .y) (n .y))
