@@ -1,3 +1,4 @@
+-- `lsm_format::types::checked_coordinates` meets its contract: t, c and z in turn, the first that is too large. Assumes nothing.
 use Rattle.lsm_format.specs.Rectangle.{coordinates}
 use native.Mathlib.Omega.{arith}
 use borrow.Author.Tests.{lt-ltb, le-ltb}

@@ -1,3 +1,4 @@
+-- `lsm_format::types::checked_region` meets its contract: the coordinate's answer, then the rectangle's. Assumes nothing.
 use mathlib.Core.Path.{sym, ap, _∙_}
 use Rattle.lsm_format.specs.Rectangle.{inPicture}
 use Rattle.lsm_format.specs.Code.{checkOf}

@@ -58,7 +58,9 @@ enum-told c = search needs
 
 mul-turn : tie.Need-mul-turn
 mul-turn c =
-    let s = c .before .before .before .before .before .before .before .before .before .before .before .before .before .before .before .before .before .before in
+    let copied = c .before .before .before .before .before .before in
+    let sized = copied .before .before .before .before .before .before .before in
+    let s = sized .before .before .before .before .before in
     omega (arith, samples s .samples)
 
 turn-requires : tie.Need-turn-requires

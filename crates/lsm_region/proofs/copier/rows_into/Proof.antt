@@ -21,19 +21,21 @@ Inv-loop file table first end row y h start part out₀ cur₀ ahead₀ i₀ out
 abbrev μ-loop : tie.MeasureT-loop
 μ-loop file table first end row y h start part out₀ cur₀ ahead₀ i₀ out cur ahead i = h - i
 
--- where the turn's row begins
+-- what the function starts with, seen from a turn's row
+abbrev start : tie.After-seek Inv-loop μ-loop → tie.Start Inv-loop μ-loop
+start c = c .before .before .before .before .before .before
+
+-- where that row begins
 there : (c : tie.After-seek Inv-loop μ-loop)
-    → Stands (c .before .before .before .before .before .before .args .table .now) (c .before .before .before .before .before .before .args .end) (c .before .before .before .before .before .before .args .first)
-    ((c .before .before .before .before .before .before .args .y + c .before .before .loop .i) * c .before .before .before .before .before .before .args .row + c .before .before .before .before .before .before .args .start)
+    → Stands (start c .args .table .now) (start c .args .end) (start c .args .first) ((start c .args .y + c .before .before .loop .i) * start c .args .row + start c .args .start)
     (c .seek .result .strip) (c .seek .result .into)
 there c = stands-then (c .before .before .loop .inv .2) (c .seek .ensures)
 
 -- and where its bytes go
 fits : (c : tie.After-seek Inv-loop μ-loop)
-    → c .before .before .loop .i * c .before .before .before .before .before .before .args .part + c .before .before .before .before .before .before .args .part
-    ≤ length (c .before .before .loop .out)
+    → c .before .before .loop .i * start c .args .part + start c .args .part ≤ length (c .before .before .loop .out)
 fits c =
-    let s = c .before .before .before .before .before .before in
+    let s = start c in
     omega (arith, part-in (s .args .h) (s .args .part) (c .before .before .loop .i) (c .before .loop-test .taken), s .pre .1, c .before .before .loop .inv .1)
 
 loop-holds : tie.Need-loop-holds Inv-loop μ-loop

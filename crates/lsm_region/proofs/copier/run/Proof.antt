@@ -24,22 +24,25 @@ Inv-loop file table end out₀ i₀ into₀ at₀ out i into at =
 abbrev μ-loop : tie.MeasureT-loop
 μ-loop file table end out₀ i₀ into₀ at₀ out i into at = length out - at + (end - i)
 
+-- what the function starts with, seen from a turn
+abbrev start : tie.In-loop Inv-loop μ-loop → tie.Start Inv-loop μ-loop
+start c = c .before .before .before .before .before
+
 -- a turn has a strip to look at
-more : (c : tie.In-loop Inv-loop μ-loop) → c .before .loop .i < c .before .before .before .before .before .args .end
-more c = stands-more (c .before .loop .inv .2) (omega (arith, c .before .before .before .before .before .pre .1 .0))
+more : (c : tie.In-loop Inv-loop μ-loop) → c .before .loop .i < start c .args .end
+more c = stands-more (c .before .loop .inv .2) (omega (arith, start c .pre .1 .0))
 
 -- which lies in the file, as all do from there on
 lies : (c : tie.In-loop Inv-loop μ-loop)
-    → (offsetOf (c .before .before .before .before .before .args .table .now) (c .before .loop .i) + countOf (c .before .before .before .before .before .args .table .now) (c .before .loop .i)
-    ≤ length (c .before .before .before .before .before .args .file .now))
-    × (inside (c .before .before .before .before .before .args .table .now) (length (c .before .before .before .before .before .args .file .now)) (c .before .loop .i + 1) (c .before .before .before .before .before .args .end - c .before .loop .i - 1) ≡ true)
+    → (offsetOf (start c .args .table .now) (c .before .loop .i) + countOf (start c .args .table .now) (c .before .loop .i) ≤ length (start c .args .file .now))
+    × (inside (start c .args .table .now) (length (start c .args .file .now)) (c .before .loop .i + 1) (start c .args .end - c .before .loop .i - 1) ≡ true)
 lies c = inside-head _ _ _ _ (omega (arith, more c)) (c .before .loop .inv .3)
 
 -- what a turn copies: there is room for it, it is in the strip, and it is something
 copied : (c : tie.After-less Inv-loop μ-loop)
     → (c .before .before .before .before .loop .at + c .less .result ≤ length (c .before .before .before .before .loop .out))
     × (c .before .before .before .before .loop .into + c .less .result
-    ≤ countOf (c .before .before .before .before .before .before .before .before .args .table .now) (c .before .before .before .before .loop .i))
+    ≤ countOf (start (c .before .before .before) .args .table .now) (c .before .before .before .before .loop .i))
     × (0 < c .less .result)
 copied c =
     let at = c .before .before .before .loop-test .taken in

@@ -21,11 +21,15 @@ abbrev μ-loop : tie.MeasureT-loop
 more : (c : tie.In-loop Inv-loop μ-loop) → c .before .loop .i < c .before .before .args .end
 more c = stands-more (c .before .loop .inv .1) (c .before .before .pre .1)
 
+-- what the function starts with, seen from a strip that holds the rows ahead
+abbrev start : tie.Then2 Inv-loop μ-loop → tie.Start Inv-loop μ-loop
+start c = c .before .before .before .before .before
+
 -- rows that end in this strip
 fits : (c : tie.Then2 Inv-loop μ-loop)
-    → c .before .before .before .before .loop .ahead * c .before .before .before .before .before .args .row
-    ≤ countOf (c .before .before .before .before .before .args .table .now) (c .before .before .before .before .loop .i) - c .before .before .before .before .loop .into
-fits c = ahead-fits _ _ _ _ (c .before .before .before .before .before .pre .0 .2) (c .if2 .taken)
+    → c .before .before .before .before .loop .ahead * start c .args .row
+    ≤ countOf (start c .args .table .now) (c .before .before .before .before .loop .i) - c .before .before .before .before .loop .into
+fits c = ahead-fits _ _ _ _ (start c .pre .0 .2) (c .if2 .taken)
 
 known : (c : tie.After-shared-slice-known Inv-loop μ-loop) → countOf (c .before .before .before .args .table .now) (c .before .before .loop .i) < 2 ^ 64
 known c = omega (arith, c .shared-slice-known .given (2 * c .before .before .loop .i + 1))

@@ -23,9 +23,13 @@ loop-holds : tie.Need-loop-holds Inv-loop μ-loop
 unfolding span
 loop-holds c = (omega arith, refl, refl, rw zero-mul)
 
+-- what the function starts with, seen from a turn
+abbrev start : tie.In-loop Inv-loop μ-loop → tie.Start Inv-loop μ-loop
+start c = c .before .before .before
+
 fits : (c : tie.In-loop Inv-loop μ-loop)
-    → c .before .loop .q * c .before .before .before .args .s + c .before .before .before .args .s ≤ c .before .before .before .args .m * c .before .before .before .args .s
-fits c = part-in (c .before .before .before .args .m) (c .before .before .before .args .s) (c .before .loop .q) (c .loop-test .taken)
+    → c .before .loop .q * start c .args .s + start c .args .s ≤ start c .args .m * start c .args .s
+fits c = part-in (start c .args .m) (start c .args .s) (c .before .loop .q) (c .loop-test .taken)
 
 mul-at : tie.Need-mul-at Inv-loop μ-loop
 mul-at c = omega (arith, fits c)

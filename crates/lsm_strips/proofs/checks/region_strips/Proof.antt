@@ -8,14 +8,21 @@ use borrow.Author.Tests.{not-true}
 use Rattle.lsm_format.specs.Answer.{accepted}
 use Rattle.lsm_format.specs.Code.{bytesOf}
 use Rattle.lsm_format.specs.Sizes.{pictureSize}
+use Rattle.lsm_format.specs.Open.{Description}
 use Rattle.lsm_format.proofs.Region.{region-plane}
 use Rattle.lsm_description.specs.Code.{descriptionOf}
 use Rattle.lsm_strips.proofs.Judging.{past-not, region-whole, region-broken, region-oversized}
 
+-- what the function starts with, seen from the picture's size
+abbrev start : tie.After-known-told → tie.Start
+start c = c .before .before .before .before .before .before
+
+abbrev described : tie.After-known-told → Description
+described c = descriptionOf (start c .args .d)
+
 -- the picture's size
 sized : (c : tie.After-known-told)
-    → pictureSize (descriptionOf (c .before .before .before .before .before .before .args .d) .dims .x) (descriptionOf (c .before .before .before .before .before .before .args .d) .dims .y) (descriptionOf (c .before .before .before .before .before .before .args .d) .kind)
-    ≡ accepted (c .before .size .given .0 .0)
+    → pictureSize (described c .dims .x) (described c .dims .y) (described c .kind) ≡ accepted (c .before .size .given .0 .0)
 sized c = sym (c .before .before .before .checked-plane-bytes .ensures) ∙ ap bytesOf (c .before .size .given .1)
 
 checked-plane-bytes-requires : tie.Need-checked-plane-bytes-requires
@@ -30,13 +37,13 @@ past-test-requires c κs = search needs
 sized-strips-requires : tie.Need-sized-strips-requires
 sized-strips-requires c κs =
     let k = c .before .before in
-    (k .before .before .before .before .before .before .pre .0, sized k)
+    (start k .pre .0, sized k)
 
 returns : tie.Need-returns
 returns c =
     let p = c .before .before in
     let k = p .before in
-    let s = k .before .before .before .before .before .before in
+    let s = start k in
     c .sized-strips .ensures
     ∙ sym (region-plane _ _ _ _ _ (s .pre .1 .across) (s .pre .1 .down) (s .pre .1 .rows) _ (sized k) (s .pre .0) (past-not _ _ (sym (p .past-test .ensures) ∙ not-true _ (c .before .if1 .taken))))
 
@@ -51,7 +58,7 @@ window-strips-requires c κs =
 sized-strips-requires-2 : tie.Need-sized-strips-requires-2
 sized-strips-requires-2 c κs =
     let k = c .before .before .before .before in
-    (k .before .before .before .before .before .before .pre .0, sized k)
+    (start k .pre .0, sized k)
 
 enum-known-r : tie.Need-enum-known-r
 enum-known-r c = search needs

@@ -1,3 +1,4 @@
+-- `lsm_words::answers::picture_refusal` meets its contract: the five numbers of a refusal are its row, then zeros. Assumes nothing.
 use Rattle.lsm_words.specs.Answers.{pictureLength}
 use Rattle.lsm_words.proofs.Answered.{row-words}
 use borrow.Author.Needs.{needs}
