@@ -118,6 +118,7 @@ channelStrips d words co =
 
 -- ---- plane
 
+-- "scene" of "Order of checks": below the count of scenes, or 5.
 unfoldable pub sceneThere : Description → ℕ → Result (Unit {0})
 sceneThere d scene = need (sceneOutOfRange scene (d .layout .scenes)) (ltb scene (d .layout .scenes))
 
@@ -167,6 +168,7 @@ unfoldable pub wholeStrips : ℕ → List ℕ → ℕ → ℕ → Bool
 wholeStrips row table i zero = true
 wholeStrips row table i (suc n) = eqb (countOf table i % row) 0 && wholeStrips row table (i + 1) n
 
+-- The rows that the strips hold.
 unfoldable pub rowsIn : ℕ → List ℕ → ℕ → ℕ → ℕ
 rowsIn row table i zero = 0
 rowsIn row table i (suc n) = countOf table i / row + rowsIn row table (i + 1) n
