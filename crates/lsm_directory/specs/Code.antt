@@ -16,7 +16,7 @@ use Rattle.lsm_directory.specs.declared.Field.the-variants.{NewSubfileTy
 use Rattle.lsm_directory.specs.declared.Tag.{Tag}
 use Rattle.lsm_directory.specs.declared.Tag.the-variants.{Field as OfField, StripOffsets, StripByteCounts, CzLsmInfo, Other}
 use Rattle.lsm_directory.specs.declared.Value.{Value}
-use Rattle.lsm_directory.specs.declared.Value.the-variants.{Scalar, Offsets, Counts, CzBlock, Nothing}
+use Rattle.lsm_directory.specs.declared.Value.the-variants.{Subfile, Width, Height, Bits, Compression as CompressionValue, Samples, Planar, SampleFormat as FormatValue, Offsets, Counts, CzBlock, Nothing}
 use Rattle.lsm_directory.specs.declared.EntryAnswer.{EntryAnswer}
 use Rattle.lsm_directory.specs.declared.EntryAnswer.the-variants.{Value as Stated, Refused}
 use Rattle.lsm_directory.specs.declared.Ends.{Ends}
@@ -65,7 +65,14 @@ tagMeant Other = other
 
 -- a directory with what an entry states
 abbrev pub putStated : Order → List ℕ → Value → Rule.Directory → Rule.Directory
-putStated o f (Scalar t n) d = put (fieldMeant t) n d
+putStated o f (Subfile n) d = put newSubfileType n d
+putStated o f (Width n) d = put imageWidth n d
+putStated o f (Height n) d = put imageLength n d
+putStated o f (Bits n) d = put bitsPerSample n d
+putStated o f (CompressionValue n) d = put compression n d
+putStated o f (Samples n) d = put samplesPerPixel n d
+putStated o f (Planar n) d = put planarConfiguration n d
+putStated o f (FormatValue n) d = put sampleFormat n d
 putStated o f (Offsets a) d = putOffsets (valuesOf o f a) d
 putStated o f (Counts a) d = putCounts (valuesOf o f a) d
 putStated o f (CzBlock offset declared) d = putCz offset declared d

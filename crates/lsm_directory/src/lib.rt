@@ -112,7 +112,14 @@ pub fn tag_of(tag: u16) -> Tag
 
 // What an entry states.
 pub enum Value {
-    Scalar(Field, u32),
+    Subfile(u32),
+    Width(u32),
+    Height(u32),
+    Bits(u32),
+    Compression(u32),
+    Samples(u32),
+    Planar(u32),
+    SampleFormat(u32),
     Offsets(StripArray),
     Counts(StripArray),
     CzBlock(u32, usize),
@@ -156,31 +163,20 @@ fn put_cz(d: Directory, offset: u32, declared: usize) -> Directory
     }
 }
 
-// The directory with a scalar's value.
-fn put_scalar(d: Directory, t: Field, n: u32) -> Directory
-    ensures { λ r. ⌜ ((o : Order) (f : List ℕ) → directoryOf o f r ≡ put (fieldMeant t) n (directoryOf o f d)) ⌝ }
-{
-    let mut next = d;
-    match t {
-        Field::NewSubfileType => next.new_subfile_type = n,
-        Field::ImageWidth => next.width = n,
-        Field::ImageLength => next.height = n,
-        Field::BitsPerSample => next.bits = n,
-        Field::Compression => next.compression = n,
-        Field::SamplesPerPixel => next.samples = n,
-        Field::PlanarConfiguration => next.planar_configuration = n,
-        Field::SampleFormat => next.sample_format = n,
-    }
-    next
-}
-
 // The directory with what an entry states. Of a repeated tag the last wins.
 pub fn put_value(d: Directory, v: Value) -> Directory
     ensures { λ r. ⌜ ((o : Order) (f : List ℕ) → directoryOf o f r ≡ putStated o f v (directoryOf o f d)) ⌝ }
 {
     let mut next = d;
     match v {
-        Value::Scalar(t, n) => return put_scalar(d, t, n),
+        Value::Subfile(n) => next.new_subfile_type = n,
+        Value::Width(n) => next.width = n,
+        Value::Height(n) => next.height = n,
+        Value::Bits(n) => next.bits = n,
+        Value::Compression(n) => next.compression = n,
+        Value::Samples(n) => next.samples = n,
+        Value::Planar(n) => next.planar_configuration = n,
+        Value::SampleFormat(n) => next.sample_format = n,
         Value::Offsets(a) => next.offsets = a,
         Value::Counts(a) => next.counts = a,
         Value::CzBlock(offset, declared) => return put_cz(d, offset, declared),
@@ -205,6 +201,22 @@ fn is_short_field(t: Field) -> bool
     }
 }
 
+// What a scalar states.
+fn scalar_value(t: Field, v: u32) -> Value
+    ensures { λ r. ⌜ ((o : Order) (f : List ℕ) (d : Rule.Directory) → putStated o f r d ≡ put (fieldMeant t) v d) ⌝ }
+{
+    match t {
+        Field::NewSubfileType => Value::Subfile(v),
+        Field::ImageWidth => Value::Width(v),
+        Field::ImageLength => Value::Height(v),
+        Field::BitsPerSample => Value::Bits(v),
+        Field::Compression => Value::Compression(v),
+        Field::SamplesPerPixel => Value::Samples(v),
+        Field::PlanarConfiguration => Value::Planar(v),
+        Field::SampleFormat => Value::SampleFormat(v),
+    }
+}
+
 // What a scalar states, where it has no more bits than its field.
 fn field_value(t: Field, v: u32) -> EntryAnswer
     ensures { λ r. ⌜ ((o : Order) (f : List ℕ) (d : Rule.Directory) → stepOf o f r d ≡ putField (fieldMeant t) v d) ⌝ }
@@ -213,8 +225,9 @@ fn field_value(t: Field, v: u32) -> EntryAnswer
         if is_short_field(t) {
             return EntryAnswer::Refused(Refusal::Decode);
         }
+        return EntryAnswer::Value(scalar_value(t, v));
     }
-    EntryAnswer::Value(Value::Scalar(t, v))
+    EntryAnswer::Value(scalar_value(t, v))
 }
 
 // The CZ entry: its values never fit into four bytes, so it holds an offset.
