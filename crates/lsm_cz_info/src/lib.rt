@@ -20,7 +20,7 @@ ghost use lib.IntN.{pos};
 ghost use lib.ListN.{length};
 ghost use Rattle.lsm_format.specs.Calibration.{uncalibrated};
 ghost use Rattle.lsm_format.specs.Code.{orderOf, blockOf};
-ghost use Rattle.lsm_format.specs.CzInfo.{extents, stated, voxels, place, channelBlock, shots, from, czInfo};
+ghost use Rattle.lsm_format.specs.CzInfo.{extents, stated, voxels, blockPlace, channelBlock, shots, from, czInfo};
 ghost use Rattle.lsm_cz_info.specs.Code.{statedOf, extentsOf, voxelsOf, channelOf, shotsOf, czOf};
 
 // The dimensions: five i32s.
@@ -189,7 +189,7 @@ fn read_voxels(buf: &[u8], block: usize, bytes: usize, e: Endian) -> VoxelsAnswe
 
 // The place that the block states; one that is not above 0 is none.
 fn placed(n: i32) -> ChannelBlock
-    ensures { λ r. ⌜ blockOf r ≡ place n ⌝ }
+    ensures { λ r. ⌜ blockOf r ≡ blockPlace n ⌝ }
 {
     if n <= 0 {
         return ChannelBlock::Absent;

@@ -13,7 +13,7 @@ use borrow.Author.Tests.{le-leb, lt-leb, lt-ltb, le-ltb, leb-true, leb-false}
 use Rattle.lsm_format.specs.Answer.{Result, accepted, refused, bind, parse, outOfRange}
 use Rattle.lsm_format.specs.Numbers.{Order, numberAt, i32At}
 use Rattle.lsm_format.specs.Lent.{lend, filled}
-use Rattle.lsm_format.specs.Channels.{pointers, colorAt, color, recordBy, nameRecord, recordOf, kept, nameSpan, joined, trimmed, name, channelIn, textOf, lookup, lookupMemory}
+use Rattle.lsm_format.specs.Channels.{pointers, colorAt, color, recordBy, nameRecord, recordOf, kept, nameSpan, unlessTrailing, trimmed, name, channelIn, textOf, lookup, lookupMemory}
 use Rattle.lsm_format.proofs.Numbers.{part-past, part-there, part-bytes, number-past}
 use Rattle.lsm_format.proofs.Apart.{no-case}
 
@@ -151,14 +151,14 @@ trim-zero : (bs : List ℕ) → trimmed (bs ++ 0 ∷ []) ≡ trimmed bs
 trim-zero [] = refl
 trim-zero (b ∷ bs) = rw (trim-zero bs)
 
-join-some : (b c : ℕ) (bs : List ℕ) → joined b (bs ++ c ∷ []) ≡ b ∷ bs ++ c ∷ []
-join-some zero c [] = refl
-join-some zero c (d ∷ bs) = refl
-join-some (suc b) c bs = refl
+trailing-some : (b c : ℕ) (bs : List ℕ) → unlessTrailing b (bs ++ c ∷ []) ≡ b ∷ bs ++ c ∷ []
+trailing-some zero c [] = refl
+trailing-some zero c (d ∷ bs) = refl
+trailing-some (suc b) c bs = refl
 
 trim-kept : (bs : List ℕ) (c : ℕ) → trimmed (bs ++ suc c ∷ []) ≡ bs ++ suc c ∷ []
 trim-kept [] c = refl
-trim-kept (b ∷ bs) c = rw (trim-kept bs c) (join-some b (suc c) bs)
+trim-kept (b ∷ bs) c = rw (trim-kept bs c) (trailing-some b (suc c) bs)
 
 kept-by : (bs : List ℕ) (c : ℕ) → (c ≡ 0 → ⊥) → bs ++ c ∷ [] ≡ trimmed (bs ++ c ∷ [])
 kept-by bs zero h = absurd (h refl)

@@ -15,7 +15,7 @@ use Rattle.lsm_format.specs.Answer.{Result, accepted, refused, bind, nee
 use Rattle.lsm_format.specs.Numbers.{Order, i32At, f64BitsAt}
 use Rattle.lsm_format.specs.Calibration.{Calibration, uncalibrated, calibration}
 use Rattle.lsm_format.specs.CzInfo.{isMagic, blockLength, header, Extents, extents, positive, natural, size, stated}
-use Rattle.lsm_format.specs.CzInfo.{voxels, place, channelBlock, shots, from, czInfo}
+use Rattle.lsm_format.specs.CzInfo.{voxels, blockPlace, channelBlock, shots, from, czInfo}
 use Rattle.lsm_format.proofs.Apart.{no-case}
 
 -- ---- signed numbers by the code's tests
@@ -74,15 +74,15 @@ length-most declared (pos zero) = omega arith
 length-most declared (pos (suc n)) = min-le-left declared (suc n)
 length-most declared (negsuc n) = omega arith
 
-pub place-none : (z : ℤ) → leZ z (pos 0) ≡ true → none ≡ place z
-place-none (pos zero) t = refl
-place-none (pos (suc n)) t = absurd (omega (arith, leb-true (suc n) 0 t))
-place-none (negsuc n) t = refl
+pub block-place-none : (z : ℤ) → leZ z (pos 0) ≡ true → none ≡ blockPlace z
+block-place-none (pos zero) t = refl
+block-place-none (pos (suc n)) t = absurd (omega (arith, leb-true (suc n) 0 t))
+block-place-none (negsuc n) t = refl
 
-pub place-some : (z : ℤ) → leZ z (pos 0) ≡ false → some (natAbs z) ≡ place z
-place-some (pos zero) t = absurd (omega (arith, clash t))
-place-some (pos (suc n)) t = refl
-place-some (negsuc n) t = absurd (omega (arith, clash t))
+pub block-place-some : (z : ℤ) → leZ z (pos 0) ≡ false → some (natAbs z) ≡ blockPlace z
+block-place-some (pos zero) t = absurd (omega (arith, clash t))
+block-place-some (pos (suc n)) t = refl
+block-place-some (negsuc n) t = absurd (omega (arith, clash t))
 
 -- ---- the header
 
@@ -282,7 +282,7 @@ module _ (o : Order) (f : List ℕ) (block : ℕ) where
   unfolding voxels bind
   voxels-is a b c e = rw (voxels, a, b, c, e)
 
-  pub channel-is : {n : ℤ} {p : Option ℕ} → i32At o f (block + 108) ≡ accepted n → p ≡ place n → accepted p ≡ channelBlock o f block
+  pub channel-is : {n : ℤ} {p : Option ℕ} → i32At o f (block + 108) ≡ accepted n → p ≡ blockPlace n → accepted p ≡ channelBlock o f block
   unfolding channelBlock bind
   channel-is a e = rw (channelBlock, a, e)
 

@@ -62,15 +62,16 @@ nameSpan o f block (pos zero) channel = none
 nameSpan o f block (pos (suc n)) channel = kept (recordOf o f (block + suc n) channel)
 nameSpan o f block (negsuc n) channel = none
 
--- "Trailing zero bytes are dropped, inner ones kept."
-abbrev pub joined : ℕ → List ℕ → List ℕ
-joined zero [] = []
-joined zero (b ∷ bs) = zero ∷ b ∷ bs
-joined (suc n) bs = suc n ∷ bs
+-- A byte before what is kept of those after it; a zero before nothing is a trailing one.
+abbrev pub unlessTrailing : ℕ → List ℕ → List ℕ
+unlessTrailing zero [] = []
+unlessTrailing zero (b ∷ bs) = zero ∷ b ∷ bs
+unlessTrailing (suc n) bs = suc n ∷ bs
 
+-- "Trailing zero bytes are dropped, inner ones kept."
 abbrev pub trimmed : List ℕ → List ℕ
 trimmed [] = []
-trimmed (b ∷ bs) = joined b (trimmed bs)
+trimmed (b ∷ bs) = unlessTrailing b (trimmed bs)
 
 -- The name: the text of the bytes that stand there.
 abbrev pub textIn : List ℕ → Option (ℕ × ℕ) → Option (List ℕ)

@@ -90,14 +90,14 @@ voxels o f block =
     bind (f64BitsAt o f (block + 56)) (λ z. accepted (calibration x y z))))
 
 -- "the channel block's offset (≤ 0 is none)"
-abbrev pub place : ℤ → Option ℕ
-place (pos zero) = none
-place (pos (suc n)) = some (suc n)
-place (negsuc n) = none
+abbrev pub blockPlace : ℤ → Option ℕ
+blockPlace (pos zero) = none
+blockPlace (pos (suc n)) = some (suc n)
+blockPlace (negsuc n) = none
 
 -- "from 112 the channel block's offset": OffsetChannelColors at 108.
 unfoldable pub channelBlock : Order → List ℕ → ℕ → Result (Option ℕ)
-channelBlock o f block = bind (i32At o f (block + 108)) (λ n. accepted (place n))
+channelBlock o f block = bind (i32At o f (block + 108)) (λ n. accepted (blockPlace n))
 
 -- "from 272 P and M": DimensionP at 264, DimensionM at 268.
 unfoldable pub shots : Order → List ℕ → ℕ → Result (ℤ × ℤ)

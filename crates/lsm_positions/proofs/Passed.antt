@@ -9,5 +9,5 @@ use Rattle.lsm_positions.specs.Code.{countOf}
 use Rattle.lsm_positions.specs.declared.Count.{Count}
 
 -- what `counted` told of a number, of the number itself
-pub told : {r v : Count} (z : ℤ) → SFits w32 z → countOf r ≡ count (toZ w32 (ofZ w32 z)) → r ≡ v → count z ≡ countOf v
-told z h e v = ap count (sym (toZ-ofZ w32 z h)) ∙ sym e ∙ ap countOf v
+pub count-told : {r v : Count} (z : ℤ) → SFits w32 z → countOf r ≡ count (toZ w32 (ofZ w32 z)) → r ≡ v → count z ≡ countOf v
+count-told z h e v = ap count (sym (toZ-ofZ w32 z h)) ∙ sym e ∙ ap countOf v

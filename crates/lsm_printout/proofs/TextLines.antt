@@ -23,8 +23,8 @@ text-append [] ys = refl
 text-append (x ∷ xs) ys = ap (λ (t : List ℕ). x ++ 10 ∷ [] ++ t) (text-append xs ys) ∙ sym (append-assoc (x ++ 10 ∷ []) (text xs) (text ys))
 
 -- lines after lines
-pub joined : (xs ys : List (List ℕ)) {at p r : ℕ} {a b c : List ℕ} → Put (text xs) at a b p → Put (text ys) p b c r → Put (text (xs ++ ys)) at a c r
-joined xs ys x y = same (sym (text-append xs ys)) (then x y)
+pub text-joined : (xs ys : List (List ℕ)) {at p r : ℕ} {a b c : List ℕ} → Put (text xs) at a b p → Put (text ys) p b c r → Put (text (xs ++ ys)) at a c r
+text-joined xs ys x y = same (sym (text-append xs ys)) (then x y)
 
 -- no line yet, and one line more
 pub each-none : (g : ℕ → List ℕ) → text (each 0 g) ≡ []
@@ -34,7 +34,7 @@ each-none g = refl
 pub each-next : (g : ℕ → List ℕ) (i : ℕ) {at p r : ℕ} {a b c : List ℕ} → Put (text (each i g)) at a b p → Put (text (g i ∷ [])) p b c r
     → Put (text (each (i + 1) g)) at a c r
 unfolding each
-each-next g i x y = same (ap (λ (n : ℕ). text (each n g)) (sym (add-one i))) (joined (each i g) (g i ∷ []) x y)
+each-next g i x y = same (ap (λ (n : ℕ). text (each n g)) (sym (add-one i))) (text-joined (each i g) (g i ∷ []) x y)
 
 -- no line left
 pub each-done : (g : ℕ → List ℕ) (i n : ℕ) {at r : ℕ} {a b : List ℕ} → i ≤ n → n ≤ i → Put (text (each i g)) at a b r → Put (text (each n g)) at a b r

@@ -25,20 +25,20 @@ use Rattle.lsm_words.specs.Answers.{openWords}
 -- ---- what opening gives
 
 -- a rule all of whose accepted answers have a property
-unfoldable Each : {A : Type 0} → (A → Type 0) → Result A → Type 0
-Each P (accepted a) = P a
-Each P (refused row) = Unit {0}
+unfoldable IfAccepted : {A : Type 0} → (A → Type 0) → Result A → Type 0
+IfAccepted P (accepted a) = P a
+IfAccepted P (refused row) = Unit {0}
 
-each : {A B : Type 0} (P : B → Type 0) (m : Result A) (k : A → Result B) → ((a : A) → Each P (k a)) → Each P (bind m k)
-unfolding Each bind
-each P (accepted a) k h = h a
-each P (refused row) k h = tt
+then-holds : {A B : Type 0} (P : B → Type 0) (m : Result A) (k : A → Result B) → ((a : A) → IfAccepted P (k a)) → IfAccepted P (bind m k)
+unfolding IfAccepted bind
+then-holds P (accepted a) k h = h a
+then-holds P (refused row) k h = tt
 
-each-of : {A B : Type 0} (Q : A → Type 0) (P : B → Type 0) (m : Result A) (k : A → Result B) → Each Q m →
-    ((a : A) → Q a → Each P (k a)) → Each P (bind m k)
-unfolding Each bind
-each-of Q P (accepted a) k q h = h a q
-each-of Q P (refused row) k q h = tt
+then-holds-of : {A B : Type 0} (Q : A → Type 0) (P : B → Type 0) (m : Result A) (k : A → Result B) → IfAccepted Q m →
+    ((a : A) → Q a → IfAccepted P (k a)) → IfAccepted P (bind m k)
+unfolding IfAccepted bind
+then-holds-of Q P (accepted a) k q h = h a q
+then-holds-of Q P (refused row) k q h = tt
 
 micrometres-fits : (bits : ℕ) → T (fits binary32 (micrometres bits))
 unfolding micrometres
@@ -86,51 +86,51 @@ abbrev NumberOpened : Opened → Type 0
 NumberOpened r = NumberDescription (r .description)
 
 module _ (o : Order) (f : List ℕ) where
-  voxels-number : (block : ℕ) → Each NumberSize (voxels o f block)
-  unfolding voxels Each
+  voxels-number : (block : ℕ) → IfAccepted NumberSize (voxels o f block)
+  unfolding voxels IfAccepted
   voxels-number block =
-      each NumberSize _ _ (λ x. each NumberSize _ _ (λ y. each NumberSize _ _ (λ z. calibration-number x y z)))
+      then-holds NumberSize _ _ (λ x. then-holds NumberSize _ _ (λ y. then-holds NumberSize _ _ (λ z. calibration-number x y z)))
 
-  from-number : (block : ℕ) (t : Bool) → Each NumberSize (from t (voxels o f block) uncalibrated)
-  unfolding Each
+  from-number : (block : ℕ) (t : Bool) → IfAccepted NumberSize (from t (voxels o f block) uncalibrated)
+  unfolding IfAccepted
   from-number block true = voxels-number block
   from-number block false = tt
 
-  info-number : (block declared : ℕ) → Each NumberInfo (czInfo o f block declared)
-  unfolding czInfo Each
+  info-number : (block declared : ℕ) → IfAccepted NumberInfo (czInfo o f block declared)
+  unfolding czInfo IfAccepted
   info-number block declared =
-      each NumberInfo _ _ (λ n.
-      each NumberInfo _ _ (λ d.
-      each NumberInfo _ _ (λ _.
-      each-of NumberSize NumberInfo _ _ (from-number block (leb 64 n)) (λ s h.
-      each NumberInfo _ _ (λ colors. each NumberInfo _ _ (λ pm. h))))))
+      then-holds NumberInfo _ _ (λ n.
+      then-holds NumberInfo _ _ (λ d.
+      then-holds NumberInfo _ _ (λ _.
+      then-holds-of NumberSize NumberInfo _ _ (from-number block (leb 64 n)) (λ s h.
+      then-holds NumberInfo _ _ (λ colors. then-holds NumberInfo _ _ (λ pm. h))))))
 
-  describe-number : (k : Kind) (p : Directory) (pages : ℕ) (i : CzInfo) → NumberInfo i → Each NumberDescription (describe o k p pages i)
-  unfolding describe Each
-  describe-number k p pages i h = each NumberDescription _ _ (λ _. each NumberDescription _ _ (λ l. h))
+  describe-number : (k : Kind) (p : Directory) (pages : ℕ) (i : CzInfo) → NumberInfo i → IfAccepted NumberDescription (describe o k p pages i)
+  unfolding describe IfAccepted
+  describe-number k p pages i h = then-holds NumberDescription _ _ (λ _. then-holds NumberDescription _ _ (λ l. h))
 
-  walk-number : (w : Walk) → Each NumberDescription (describeWalk o f w)
+  walk-number : (w : Walk) → IfAccepted NumberDescription (describeWalk o f w)
   unfolding describeWalk
   walk-number w =
-      each NumberDescription _ _ (λ p.
-      each NumberDescription _ _ (λ _.
-      each NumberDescription _ _ (λ k.
-      each NumberDescription _ _ (λ cz.
-      each-of NumberInfo NumberDescription _ _ (info-number (cz .0) (cz .1)) (λ i h. describe-number k p _ i h)))))
+      then-holds NumberDescription _ _ (λ p.
+      then-holds NumberDescription _ _ (λ _.
+      then-holds NumberDescription _ _ (λ k.
+      then-holds NumberDescription _ _ (λ cz.
+      then-holds-of NumberInfo NumberDescription _ _ (info-number (cz .0) (cz .1)) (λ i h. describe-number k p _ i h)))))
 
-read-number : (f : List ℕ) → Each NumberOpened (read f)
-unfolding read Each
+read-number : (f : List ℕ) → IfAccepted NumberOpened (read f)
+unfolding read IfAccepted
 read-number f =
-    each NumberOpened _ _ (λ _.
-    each NumberOpened _ _ (λ o.
-    each NumberOpened _ _ (λ w. each-of NumberDescription NumberOpened _ _ (walk-number o f w) (λ d h. h))))
+    then-holds NumberOpened _ _ (λ _.
+    then-holds NumberOpened _ _ (λ o.
+    then-holds NumberOpened _ _ (λ w. then-holds-of NumberDescription NumberOpened _ _ (walk-number o f w) (λ d h. h))))
 
-open-number : (f : List ℕ) (room : ℕ) → Each NumberOpened (openFile f room)
-unfolding openFile Each
-open-number f room = each-of NumberOpened NumberOpened _ _ (read-number f) (λ r h. each NumberOpened _ _ (λ _. h))
+open-number : (f : List ℕ) (room : ℕ) → IfAccepted NumberOpened (openFile f room)
+unfolding openFile IfAccepted
+open-number f room = then-holds-of NumberOpened NumberOpened _ _ (read-number f) (λ r h. then-holds NumberOpened _ _ (λ _. h))
 
 -- the words that opening leaves for the caller are the description of the opened file
 pub opened-back : (f : List ℕ) (room : ℕ) (r : Opened) → openFile f room ≡ accepted r →
     describedBy (drop 3 (openWords (toldOf (openFile f room)))) ≡ accepted (r .description)
-unfolding Each
-opened-back f room r e = rw e (read-back (r .description) (subst (Each NumberOpened) e (open-number f room)))
+unfolding IfAccepted
+opened-back f room r e = rw e (read-back (r .description) (subst (IfAccepted NumberOpened) e (open-number f room)))

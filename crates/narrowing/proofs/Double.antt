@@ -102,10 +102,10 @@ pattern-low (suc x) t p l h =
 
 -- from the smallest normal f32 on: the field beside what is kept
 module _ (x t q : ℕ) (X : 897 ≤ x) (Y : x < 2047) (h : t < 2 ^ 52) (e : q ≡ closest (t + 2 ^ 52) (2 ^ 29)) where
-  abbrev joined : ℕ
-  joined = (x - 897) * 2 ^ 23 % 2 ^ 64 + q
+  abbrev assembled : ℕ
+  assembled = (x - 897) * 2 ^ 23 % 2 ^ 64 + q
 
-  high : min joined 0x7f80_0000 ≡ pattern x t
+  high : min assembled 0x7f80_0000 ≡ pattern x t
   high = go x X Y
     where
       go : (x : ℕ) → 897 ≤ x → x < 2047 → min ((x - 897) * 2 ^ 23 % 2 ^ 64 + q) 0x7f80_0000 ≡ pattern x t
@@ -115,10 +115,10 @@ module _ (x t q : ℕ) (X : 897 ≤ x) (Y : x < 2047) (h : t < 2 ^ 52) (e : q �
           let z : (suc x - 897) * 2 ^ 23 % 2 ^ 64 ≡ (x - 896) * 2 ^ 23 = omega arith in
           rw (d, e, z, add-comm t (2 ^ 52))
 
-  pub pattern-high : joined ≤ 0x7f80_0000 → joined ≡ pattern x t
+  pub pattern-high : assembled ≤ 0x7f80_0000 → assembled ≡ pattern x t
   pattern-high l = sym (min-eq-left l) ∙ high
 
-  pub pattern-over : 0x7f80_0000 ≤ joined → 0x7f80_0000 ≡ pattern x t
+  pub pattern-over : 0x7f80_0000 ≤ assembled → 0x7f80_0000 ≡ pattern x t
   pattern-over l = sym (min-eq-right l) ∙ high
 
 -- what `magnitude` ensures, of a number that is the pattern

@@ -4,7 +4,7 @@ use native.Mathlib.Omega.{arith}
 use mathlib.Core.List.{List, [], _∷_}
 use lib.ListN.{length, take, drop, length-append, length-take, length-drop}
 use Rattle.lsm_format.specs.Utf8.{Piece, sequence, subpart, piece, after, decoded, lossyBy, lossy}
-use Rattle.lsm_format.specs.Channels.{joined, trimmed}
+use Rattle.lsm_format.specs.Channels.{unlessTrailing, trimmed}
 
 -- a piece gives at most three bytes for each that it takes
 decoded-length : (p : Piece) (b : ℕ) (bs : List ℕ) → length (decoded p b bs) + 3 * length (drop (after p) bs) ≤ 3 * suc (length bs)
@@ -22,14 +22,14 @@ lossy-length : (bs : List ℕ) → length (lossy bs) ≤ 3 * length bs
 unfolding lossy
 lossy-length bs = lossy-by (length bs) bs
 
-joined-length : (b : ℕ) (bs : List ℕ) → length (joined b bs) ≤ suc (length bs)
-joined-length zero [] = omega arith
-joined-length zero (c ∷ bs) = omega arith
-joined-length (suc b) bs = omega arith
+unless-trailing-length : (b : ℕ) (bs : List ℕ) → length (unlessTrailing b bs) ≤ suc (length bs)
+unless-trailing-length zero [] = omega arith
+unless-trailing-length zero (c ∷ bs) = omega arith
+unless-trailing-length (suc b) bs = omega arith
 
 trimmed-length : (bs : List ℕ) → length (trimmed bs) ≤ length bs
 trimmed-length [] = omega arith
-trimmed-length (b ∷ bs) = omega (arith, joined-length b (trimmed bs), trimmed-length bs)
+trimmed-length (b ∷ bs) = omega (arith, unless-trailing-length b (trimmed bs), trimmed-length bs)
 
 -- the text of n bytes
 pub text-length : (bs : List ℕ) (n : ℕ) → length (lossy (trimmed (take n bs))) ≤ 3 * n

@@ -105,7 +105,10 @@ below-returns-3 : (t : ℕ) → below-lts.Need-returns-3 (
   below-below t,
   below.Post,
 ) (below-at t) below.Post
-below-returns-3 t c = below-go _ _ _ _ _ _ (c .before .before .before .before .before .before .if1 .left) (c .before .before .before .times .ensures) (sym (c .before .before .before .before .before .at-least .ensures) ∙ c .before .before .before .before .if2 .left) (c .before .before .below .ensures)
+below-returns-3 t c =
+    let tenfold = c .before .before .before in
+    let reached = tenfold .before .before in
+    below-go _ _ _ _ _ _ (reached .before .if1 .left) (tenfold .times .ensures) (sym (reached .at-least .ensures) ∙ tenfold .before .if2 .left) (c .before .before .below .ensures)
 
 pub +below-spec : {M : Type 1} → statement M
 +below-spec = close μ-below λ t. below-lts.spec (

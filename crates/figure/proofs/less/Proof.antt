@@ -4,13 +4,13 @@ use mathlib.Core.Path.{_≡_}
 use native.Mathlib.Omega.{arith}
 use lib.ListN.{length, take, length-set}
 use borrow.Author.Needs.{needs}
-use Rattle.figure.proofs.Limbs.{place, less-step, fits-step, less-end}
+use Rattle.figure.proofs.Limbs.{weight, less-step, fits-step, less-end}
 use Rattle.figure.specs.Wide.{value}
 use Rattle.figure.proofs.less.Statement.{statement}
 use Rattle.figure.proofs.less.Tie as tie
 
 abbrev Inv-loop : tie.InvT-loop
-Inv-loop a b out₀ over₀ i₀ out over i = (i ≤ 9) × (over ≤ 1) × (length a ≡ 9) × (length b ≡ 9) × (length out ≡ 9) × (value (take i out) + value (take i b) ≡ value (take i a) + over * place i) × (value (take i out) < place i)
+Inv-loop a b out₀ over₀ i₀ out over i = (i ≤ 9) × (over ≤ 1) × (length a ≡ 9) × (length b ≡ 9) × (length out ≡ 9) × (value (take i out) + value (take i b) ≡ value (take i a) + over * weight i) × (value (take i out) < weight i)
 
 abbrev μ-loop : tie.MeasureT-loop
 μ-loop a b out₀ over₀ i₀ out over i = 9 - i
@@ -47,10 +47,24 @@ loop-less : tie.Need-loop-less Inv-loop μ-loop
 loop-less c = search needs
 
 loop-again : tie.Need-loop-again Inv-loop μ-loop
-loop-again c = (search needs, search needs, search needs, search needs, simp length-set (search needs), less-step (c .before .before .before .args .t1) (c .before .before .before .args .t2) (c .before .before .loop .out) (c .before .before .loop .i) (c .limb-less .result .low) (c .before .before .loop .over) (c .limb-less .result .over) (omega arith) (omega arith) (omega arith) (c .before .before .loop .inv .5) (c .limb-less .ensures .0), fits-step (c .before .before .loop .out) (c .before .before .loop .i) (c .limb-less .result .low) (omega arith) (c .limb-less .ensures .1) (c .before .before .loop .inv .6))
+loop-again c =
+    let a = c .before .before .before .args in
+    let l = c .before .before .loop in
+    let r = c .limb-less in (
+      search needs,
+      search needs,
+      search needs,
+      search needs,
+      simp length-set (search needs),
+      less-step (a .t1) (a .t2) (l .out) (l .i) (r .result .low) (l .over) (r .result .over) (omega arith) (omega arith) (omega arith) (l .inv .5) (r .ensures .0),
+      fits-step (l .out) (l .i) (r .result .low) (omega arith) (r .ensures .1) (l .inv .6),
+    )
 
 returns : tie.Need-returns Inv-loop μ-loop
-returns c = less-end (c .before .before .args .t1) (c .before .before .args .t2) (c .before .loop .out) (c .before .loop .i) (c .before .loop .over) (omega arith) (c .before .loop .inv .2) (c .before .loop .inv .3) (c .before .loop .inv .4) (c .before .loop .inv .5) (c .before .loop .inv .6) (c .before .loop .inv .1)
+returns c =
+    let a = c .before .before .args in
+    let l = c .before .loop in
+    less-end (a .t1) (a .t2) (l .out) (l .i) (l .over) (omega arith) (l .inv .2) (l .inv .3) (l .inv .4) (l .inv .5) (l .inv .6) (l .inv .1)
 
 pub less-spec : {M : Type 1} → statement M
 less-spec =

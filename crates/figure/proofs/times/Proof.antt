@@ -4,13 +4,13 @@ use mathlib.Core.Path.{_≡_}
 use native.Mathlib.Omega.{arith}
 use lib.ListN.{length, take, length-set}
 use borrow.Author.Needs.{needs}
-use Rattle.figure.proofs.Limbs.{place, times-step, times-end}
+use Rattle.figure.proofs.Limbs.{weight, times-step, times-end}
 use Rattle.figure.specs.Wide.{value}
 use Rattle.figure.proofs.times.Statement.{statement}
 use Rattle.figure.proofs.times.Tie as tie
 
 abbrev Inv-loop : tie.InvT-loop
-Inv-loop k w out₀ over₀ i₀ out over i = (i ≤ 9) × (over < 10) × (length w ≡ 9) × (length out ≡ 9) × (value (take i out) + over * place i ≡ k * value (take i w))
+Inv-loop k w out₀ over₀ i₀ out over i = (i ≤ 9) × (over < 10) × (length w ≡ 9) × (length out ≡ 9) × (value (take i out) + over * weight i ≡ k * value (take i w))
 
 abbrev μ-loop : tie.MeasureT-loop
 μ-loop k w out₀ over₀ i₀ out over i = 9 - i
@@ -41,10 +41,22 @@ loop-less : tie.Need-loop-less Inv-loop μ-loop
 loop-less c = search needs
 
 loop-again : tie.Need-loop-again Inv-loop μ-loop
-loop-again c = (search needs, search needs, search needs, simp length-set (search needs), times-step (c .before .before .before .args .t1) (c .before .before .loop .out) (c .before .before .before .args .k) (c .before .before .loop .i) (c .limb-times .result .low) (c .before .before .loop .over) (c .limb-times .result .over) (omega arith) (omega arith) (c .before .before .loop .inv .4) (c .limb-times .ensures .0))
+loop-again c =
+    let a = c .before .before .before .args in
+    let l = c .before .before .loop in
+    let r = c .limb-times in (
+      search needs,
+      search needs,
+      search needs,
+      simp length-set (search needs),
+      times-step (a .t1) (l .out) (a .k) (l .i) (r .result .low) (l .over) (r .result .over) (omega arith) (omega arith) (l .inv .4) (r .ensures .0),
+    )
 
 returns : tie.Need-returns Inv-loop μ-loop
-returns c = times-end (c .before .before .args .t1) (c .before .loop .out) (c .before .before .args .k) (c .before .loop .i) (c .before .loop .over) (omega arith) (c .before .loop .inv .2) (c .before .loop .inv .3) (c .before .loop .inv .4) (c .before .before .pre .1)
+returns c =
+    let s = c .before .before in
+    let l = c .before .loop in
+    times-end (s .args .t1) (l .out) (s .args .k) (l .i) (l .over) (omega arith) (l .inv .2) (l .inv .3) (l .inv .4) (s .pre .1)
 
 pub times-spec : {M : Type 1} → statement M
 times-spec =

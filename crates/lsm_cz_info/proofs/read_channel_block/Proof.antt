@@ -1,7 +1,7 @@
 -- `lsm_cz_info::read_channel_block` meets its contract: a block too short for the place has none (`from-short`), and of a longer one the
 -- read decides (`from-long`). The number that was read goes to `placed` by its bits (`back`). Assumes nothing.
 use mathlib.Core.Path.{ap, _∙_}
-use Rattle.lsm_format.specs.CzInfo.{place}
+use Rattle.lsm_format.specs.CzInfo.{blockPlace}
 use Rattle.lsm_bytes.specs.Code.{i32Of}
 use Rattle.lsm_format.proofs.CzInfo.{from-short, from-long, channel-no-place, channel-is}
 use Rattle.lsm_format.proofs.Told.{told, back}
@@ -35,7 +35,7 @@ returns-3 : tie.Need-returns-3
 returns-3 c =
     from-long 112 _ _ _ (c .before .before .before .before .before .if1 .left)
     (channel-is _ _ _ (told i32Of (c .before .before .before .before .read-i32 .ensures) (c .before .before .n .given .1))
-    (c .placed .ensures ∙ ap place (back (c .before .before .n .given .0 .0) (c .before .known-told .given .0 .1))))
+    (c .placed .ensures ∙ ap blockPlace (back (c .before .before .n .given .0 .0) (c .before .known-told .given .0 .1))))
 
 pub read-channel-block-spec : {M : Type 1} → statement M
 read-channel-block-spec =

@@ -1,7 +1,7 @@
--- `lsm_printout::put_accepted` meets its contract: head, scenes, channel count, channels and notes, lines after lines (`joined`). Assumes
+-- `lsm_printout::put_accepted` meets its contract: head, scenes, channel count, channels and notes, lines after lines (`text-joined`). Assumes
 -- nothing.
 use Rattle.lsm_format.specs.Printout.{acceptedLines}
-use Rattle.lsm_printout.proofs.TextLines.{joined}
+use Rattle.lsm_printout.proofs.TextLines.{text-joined}
 use borrow.Author.Needs.{needs}
 use Rattle.lsm_printout.proofs.put_accepted.Statement.{statement}
 use Rattle.lsm_printout.proofs.put_accepted.Tie as tie
@@ -31,7 +31,7 @@ returns c =
     let count = channels .before .before .before .before in
     let scenes = count .before .before .before .before in
     let head = scenes .before .before .before .before in
-    joined _ _ (joined _ _ (joined _ _ (joined _ _ (head .put-head .ensures) (scenes .put-scenes .ensures)) (count .put-channel-count .ensures)) (channels .put-channels .ensures)) (c .before .before .put-notes .ensures)
+    text-joined _ _ (text-joined _ _ (text-joined _ _ (text-joined _ _ (head .put-head .ensures) (scenes .put-scenes .ensures)) (count .put-channel-count .ensures)) (channels .put-channels .ensures)) (c .before .before .put-notes .ensures)
 
 pub put-accepted-spec : {M : Type 1} → statement M
 put-accepted-spec =

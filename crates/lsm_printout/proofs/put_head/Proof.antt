@@ -1,7 +1,7 @@
--- `lsm_printout::put_head` meets its contract: five lines, each put after the one before (`joined`); the first is bytes with their line's
+-- `lsm_printout::put_head` meets its contract: five lines, each put after the one before (`text-joined`); the first is bytes with their line's
 -- end. Assumes nothing.
 use Rattle.lsm_format.specs.Printout.{acceptedLine, headLines}
-use Rattle.lsm_printout.proofs.TextLines.{line, joined}
+use Rattle.lsm_printout.proofs.TextLines.{line, text-joined}
 use borrow.Author.Needs.{needs}
 use Rattle.lsm_printout.proofs.put_head.Statement.{statement}
 use Rattle.lsm_printout.proofs.put_head.Tie as tie
@@ -34,7 +34,7 @@ returns c =
     let kind = pixel .before .before .before .before in
     let dims = kind .before .before .before .before in
     let first = dims .before .before .before .before in
-    joined _ _ (joined _ _ (joined _ _ (joined _ _ (line acceptedLine (first .put-bytes .ensures)) (dims .put-dims .ensures)) (kind .put-kind .ensures)) (pixel .put-pixel .ensures)) (c .before .before .put-scene-count .ensures)
+    text-joined _ _ (text-joined _ _ (text-joined _ _ (text-joined _ _ (line acceptedLine (first .put-bytes .ensures)) (dims .put-dims .ensures)) (kind .put-kind .ensures)) (pixel .put-pixel .ensures)) (c .before .before .put-scene-count .ensures)
 
 pub put-head-spec : {M : Type 1} → statement M
 put-head-spec =

@@ -30,8 +30,10 @@ part-copy-end c = omega (arith, ap (λ (q : Piece). taken (pieceOf q)) (c .befor
 
 copy-requires : tie.Need-copy-requires
 copy-requires c κs =
+    let known = c .before .before .before in
+    let start = known .before .before .before .before in
     rw (length-take, length-drop)
-    (omega (arith, c .before .before .before .before .before .before .before .pre .1 .1, c .before .before .before .before .before .before .before .pre .1 .0 .inside, ap (λ (q : Piece). given (pieceOf q)) (c .before .before .before .p .given .1), ap (λ (q : Piece). taken (pieceOf q)) (c .before .before .before .p .given .1)))
+    (omega (arith, start .pre .1 .1, start .pre .1 .0 .inside, ap (λ (q : Piece). given (pieceOf q)) (known .p .given .1), ap (λ (q : Piece). taken (pieceOf q)) (known .p .given .1)))
 
 enum-told : tie.Need-enum-told
 enum-told c = search needs

@@ -16,10 +16,18 @@ enum-known-n : tie.Need-enum-known-n
 enum-known-n c = search needs
 
 slice-reshare-prefix-same : tie.Need-slice-reshare-prefix-same
-slice-reshare-prefix-same c = let t = told-length (c .before .before .before .before .before .decode-lossy .ensures) (c .before .n .given .1) in omega (arith, t .1, c .before .before .before .before .out .given)
+slice-reshare-prefix-same c =
+    let known = c .before in
+    let lent = known .before .before .before in
+    let t = told-length (lent .before .decode-lossy .ensures) (known .n .given .1) in
+    omega (arith, t .1, lent .out .given)
 
 slice-aggregate-same : tie.Need-slice-aggregate-same
-slice-aggregate-same c = let t = told-length (c .before .before .before .before .before .before .decode-lossy .ensures) (c .before .before .n .given .1) in rw length-take (omega (arith, t .1, c .before .before .before .before .before .out .given))
+slice-aggregate-same c =
+    let known = c .before .before in
+    let lent = known .before .before .before in
+    let t = told-length (lent .before .decode-lossy .ensures) (known .n .given .1) in
+    rw length-take (omega (arith, t .1, lent .out .given))
 
 same-requires : tie.Need-same-requires
 same-requires c κs = search needs

@@ -62,15 +62,17 @@ add-t11 c = search needs
 
 returns-3 : tie.Need-returns-3
 returns-3 c =
-    let t = c .before .before .before .before .before .before in
-    let first = t .before .before .before .before .before .before .before .holds .ensures .1 (not-false _ (t .before .before .before .before .before .before .if1 .left)) in
-    let second = t .before .holds2 .ensures .1 (not-false _ (t .if2 .left)) in
+    let behind = c .before .before .before .before .before .before in
+    let more = behind .before .before .before in
+    let front = more .before .before .before in
+    let first = front .before .holds .ensures .1 (not-false _ (front .if1 .left)) in
+    let second = behind .before .holds2 .ensures .1 (not-false _ (behind .if2 .left)) in
     omega (
       arith,
       first,
       second,
-      t .before .before .before .bytes-at2 .ensures .1 .1 .1 (omega arith),
-      t .before .before .before .before .before .before .before .before .before .bytes-at .ensures .1 .1 .1 (omega arith),
+      more .bytes-at2 .ensures .1 .1 .1 (omega arith),
+      front .before .before .before .bytes-at .ensures .1 .1 .1 (omega arith),
     )
 
 pub line-at-spec : {M : Type 1} → statement M

@@ -60,8 +60,10 @@ loop-less c = search needs
 
 loop-again : tie.Need-loop-again Inv-loop μ-loop
 loop-again c =
-    let p = c .before .before .before .before .before .loop in
-    let t = turn-step _ _ _ _ _ _ (p .inv .1) (c .before .before .before .before .before .before .before .pre .0) (c .before .before .before .before .loop-test .taken) (p .inv .2) (c .before .before .flip .ensures) (p .inv .3) in
+    let flipped = c .before .before in
+    let again = flipped .before .before in
+    let p = again .before .loop in
+    let t = turn-step _ _ _ _ _ _ (p .inv .1) (again .before .before .before .pre .0) (again .loop-test .taken) (p .inv .2) (flipped .flip .ensures) (p .inv .3) in
     (omega arith, c .before .out .given .1 ∙ p .inv .1, t .1, t .0)
 
 same-length : tie.Need-same-length Inv-loop μ-loop
