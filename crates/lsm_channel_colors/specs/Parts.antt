@@ -10,7 +10,7 @@ use Rattle.lsm_channel_colors.specs.Tables.{spanOf}
 use Rattle.lsm_channel_colors.specs.Code.{colorOf}
 use Rattle.lsm_channel_colors.specs.declared.Stated.{Stated}
 
--- So many bytes of a name are left without its trailing zeros.
+-- The r bytes of a name that are left without its trailing zeros.
 pub record Trimming (f : List ℕ) (start len r : ℕ) : Type 0 where
   pub is : take r (drop start f) ≡ trimmed (take len (drop start f))
   pub within : r ≤ len

@@ -33,7 +33,7 @@ integerSize t = cond (among t (1 ∷ 3 ∷ 4 ∷ 6 ∷ 7 ∷ 8 ∷ 9 ∷ 11 ∷ 
 unfoldable pub valueAt : ℕ → Order → List ℕ → ℕ → Result ℕ
 valueAt type o f p = bind (given decode (integerSize type)) (λ size. numberAt size o f p)
 
--- So many values of a type, one after another from a place on.
+-- n values of a type, one after another from a place on.
 unfoldable pub valuesAt : ℕ → ℕ → Order → List ℕ → ℕ → Result (List ℕ)
 valuesAt zero type o f p = accepted []
 valuesAt (suc n) type o f p = bind (valueAt type o f p) (λ v. bind (valuesAt n type o f (p + typeSize type)) (λ vs. accepted (v ∷ vs)))
@@ -210,7 +210,7 @@ directory o f place = bind (ends o f place) (λ e. bind (entries (e .0) o f (pla
 
 -- ---- what is read
 
--- The bytes of so many values of a type.
+-- The bytes of n values of a type.
 abbrev pub valueRanges : ℕ → ℕ → List ℕ → ℕ → Ranges
 valueRanges n type f p = over (given decode (integerSize type)) (λ size. inFile f p (size * n))
 

@@ -6,8 +6,8 @@ use lib.Dec.{leb}
 use lib.ListN.{length, drop}
 use Rattle.lsm_format.specs.Answer.{Result, accepted, bind, need, tooShort}
 
--- "7, length needed": an answer of so many elements into room for so many. The length is accepted, or it is what the refusal
--- says; one that passes 64 bits, which no memory has room for, is said as 2 ^ 64 - 1.
+-- "7, length needed": an answer of `needed` elements into memory of `room`. The length is accepted, or it is what the refusal
+-- says, capped at 2 ^ 64 - 1: no memory is longer.
 unfoldable pub lend : ℕ → ℕ → Result ℕ
 lend needed room = bind (need (tooShort (min needed (2 ^ 64 - 1))) (leb needed room)) (λ _. accepted needed)
 

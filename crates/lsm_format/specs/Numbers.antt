@@ -22,12 +22,12 @@ abbrev pub valueOf : Order → List ℕ → ℕ
 valueOf little bs = littleValue bs
 valueOf big bs = littleValue (reverse bs)
 
--- The count bytes at an offset. "A read past the end is Parse, also where offset plus size overflows": the sum is reckoned
--- exactly, and no file is 2 ^ 64 bytes long.
+-- The count bytes at an offset. "A read past the end is Parse, also where offset plus size overflows": the sum is exact,
+-- and no file is 2 ^ 64 bytes long.
 unfoldable pub partAt : List ℕ → ℕ → ℕ → Result (List ℕ)
 partAt f at count = bind (need parse (leb (at + count) (length f))) (λ _. accepted (take count (drop at f)))
 
--- The unsigned number of so many bytes at an offset.
+-- The unsigned number of `count` bytes at an offset.
 unfoldable pub numberAt : ℕ → Order → List ℕ → ℕ → Result ℕ
 numberAt count o f at = bind (partAt f at count) (λ bs. accepted (valueOf o bs))
 

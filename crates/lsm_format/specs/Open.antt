@@ -107,7 +107,7 @@ joined w d =
 unfoldable pub join : Walk → Directory → Result Walk
 join w d = bind (agrees (w .first) d) (λ _. accepted (joined w d))
 
--- The chain from a place on, with at most so many directories more. "The 1,000,001st visited directory is Parse; exactly 1,000,000
+-- The chain from a place on, with at most n directories more. "The 1,000,001st visited directory is Parse; exactly 1,000,000
 -- pass."
 unfoldable pub chain : ℕ → Bool → Order → List ℕ → ℕ → Walk → Result Walk
 chain zero true o f place w = accepted w

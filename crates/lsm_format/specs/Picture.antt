@@ -36,7 +36,7 @@ place table i (suc n) k =
 unfoldable pub stored : List ℕ → List ℕ → ℕ → ℕ → ℕ → ℕ
 stored f table i n k = getD f (place table i n k) 0
 
--- A strip that lies "within the file": the sum is reckoned exactly, so "a strip whose offset plus length overflows" passes its end too.
+-- A strip that lies "within the file": the sum is exact, so "a strip whose offset plus length overflows" passes its end too.
 abbrev pub lies : List ℕ → ℕ → ℕ → Bool
 lies table len i = leb (offsetOf table i + countOf table i) len
 
@@ -45,8 +45,8 @@ unfoldable pub inside : List ℕ → ℕ → ℕ → ℕ → Bool
 inside table len i zero = true
 inside table len i (suc n) = lies table len i && inside table len (i + 1) n
 
--- "strips in turn, each within the file, then within the picture's size; their total": the n strips from strip i on, with so many bytes
--- still to come. A strip outside the file is refused with the one row, and bytes that are too many or too few with the other.
+-- "strips in turn, each within the file, then within the picture's size; their total": the n strips from strip i on, with `left`
+-- bytes still to come. A strip outside the file is refused with the one row, and bytes that are too many or too few with the other.
 unfoldable pub inTurn : List ℕ → List ℕ → List ℕ → ℕ → ℕ → ℕ → ℕ → Result (Unit {0})
 inTurn outside miscounted table len i zero left = need miscounted (eqb left 0)
 inTurn outside miscounted table len i (suc n) left =
@@ -73,7 +73,7 @@ Picture = ℕ → ℕ → List ℕ
 abbrev pub samplePlace : ℕ → ℕ → ℕ → ℕ → ℕ
 samplePlace width size row column = (row * width + column) * size
 
--- "the channel's joined strips", of which byte k is f k, as a picture so many samples wide, of so many bytes each.
+-- "the channel's joined strips", of which byte k is f k, as a picture of the given width, with `size` bytes to a sample.
 unfoldable pub picture : (ℕ → ℕ) → ℕ → ℕ → Picture
 picture f width size row column = bytes f (samplePlace width size row column) size
 
@@ -100,7 +100,7 @@ stripsPerPage d = d .dims .c * d .stripsPerChannel
 abbrev pub hasPage : Description → ℕ → ℕ → Bool
 hasPage d words page = not (eqb (stripsPerPage d) 0) && leb (2 * ((page + 1) * stripsPerPage d)) words
 
--- So many strips of the table, from the first on.
+-- Strips that follow one another in the table: the first, and how many they are.
 pub record Strips : Type 0 where
   pub first : ℕ
   pub count : ℕ
@@ -173,7 +173,7 @@ unfoldable pub rowsIn : ℕ → List ℕ → ℕ → ℕ → ℕ
 rowsIn row table i zero = 0
 rowsIn row table i (suc n) = countOf table i / row + rowsIn row table (i + 1) n
 
--- "and each channel's rows to add up to the height": reckoned exactly, so that rows that overflow 64 bits don't.
+-- "and each channel's rows to add up to the height": the sum is exact, so that rows that overflow 64 bits don't.
 unfoldable pub wholeChannel : Description → List ℕ → Strips → Bool
 wholeChannel d table s =
     wholeStrips (rowBytes d) table (s .first) (s .count) && eqb (rowsIn (rowBytes d) table (s .first) (s .count)) (d .dims .y)

@@ -16,7 +16,7 @@ use Rattle.lsm_format.specs.Open.{Description, Opened, openFile}
 
 -- ---- numbers
 
--- A number in decimal, with no zero in front; asked for at most so many digits.
+-- A number in decimal, with no zero in front, and at most k digits.
 unfoldable pub decimalBy : ℕ → ℕ → List ℕ
 decimalBy zero n = []
 decimalBy (suc k) n = elim (ltb n 10) [ true ↦ digit n ∷ [] | false ↦ decimalBy k (n / 10) ++ digit (n % 10) ∷ [] ]
@@ -29,7 +29,7 @@ decimal n = decimalBy (suc n) n
 abbrev pub hexDigit : ℕ → ℕ
 hexDigit d = cond (ltb d 10) (48 + d) (87 + d)
 
--- The last so many hex digits of a number.
+-- The last k hex digits of a number.
 unfoldable pub hexDigits : ℕ → ℕ → List ℕ
 hexDigits zero n = []
 hexDigits (suc k) n = hexDigits k (n / 16) ++ hexDigit (n % 16) ∷ []

@@ -25,7 +25,7 @@ pub record Layout : Type 0 where
 unfoldable pub layout : ℤ → ℤ → ℕ → Result Layout
 layout p m depth = bind (scenes p m) (λ n. accepted (record { scenes = n; depth = depth }))
 
--- "scenes × depth", reckoned exactly: the pages of all scenes.
+-- "scenes × depth", without overflow: the pages of all scenes.
 abbrev pub pages : Layout → ℕ
 pages l = l .scenes * l .depth
 
@@ -33,7 +33,7 @@ pages l = l .scenes * l .depth
 unfoldable pub pagesExpected : Layout → Result ℕ
 pagesExpected l = given decode (word (pages l))
 
--- "Page of a picture: scene × depth + z", reckoned exactly.
+-- "Page of a picture: scene × depth + z", without overflow.
 abbrev pub pageNumber : Layout → Coordinate → ℕ
 pageNumber l co = co .scene * l .depth + co .z
 

@@ -19,7 +19,7 @@ sampleSize f32 = 4
 abbrev pub pictureLimit : ℕ
 pictureLimit = 4294967296
 
--- The bytes of a picture so many samples wide and high, reckoned exactly.
+-- The bytes of a picture of the given width and height, without overflow.
 abbrev pub pictureBytes : ℕ → ℕ → Kind → ℕ
 pictureBytes width height k = width * height * sampleSize k
 

@@ -4,6 +4,6 @@ use mathlib.Core.Bool.{true, false}
 use mathlib.Core.Option.{Option, none, some}
 use lib.Dec.{ltb}
 
--- A number reckoned exactly, where it fits ("`usize` has 64 bits"); where it doesn't, it overflows.
+-- A number where it fits the machine's word ("`usize` has 64 bits"); where it doesn't, it overflows.
 unfoldable pub word : ℕ → Option ℕ
 word n = elim (ltb n (2 ^ 64)) [ true ↦ some n | false ↦ none ]

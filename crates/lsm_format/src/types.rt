@@ -149,7 +149,7 @@ pub fn checked_coordinates(dims: Dims5, scene: usize, t: usize, c: usize, z: usi
     Check::Accepted
 }
 
-// Whether start plus extent, reckoned without overflow, is at most the size.
+// Whether start plus extent doesn't overflow and is at most the size.
 fn within_size(start: usize, extent: usize, size: usize) -> bool
     ensures { λ r. ⌜ r ≡ within start extent size ⌝ }
 {

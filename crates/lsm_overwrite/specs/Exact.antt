@@ -29,7 +29,7 @@ stripBytes f table i (suc n) = take (countOf table i) (drop (offsetOf table i) f
 unfoldable pub joinedStrips : Description → List ℕ → List ℕ → Coordinate → List ℕ
 joinedStrips d table f co = stripBytes f table (namedStrips d co .first) (namedStrips d co .count)
 
--- "with the sample at row, column stored at (row × width + column) × sample size": of bytes that are so many samples wide, of size s each
+-- "with the sample at row, column stored at (row × width + column) × sample size": of rows of `width` samples, of s bytes each
 abbrev pub sampleOf : List ℕ → ℕ → ℕ → ℕ → ℕ → List ℕ
 sampleOf bytes width s row column = take s (drop (samplePlace width s row column) bytes)
 
@@ -61,7 +61,7 @@ pub record Exact (d : Description) (table f : List ℕ) (co : Coordinate) (r : R
   -- "and nothing more"
   pub size : length bytes ≡ r .h * r .w * sampleSize (d .kind)
 
--- The same in the caller's buffer: so many bytes at its front, which have room there ("a buffer long enough"); past them it is as it was.
+-- The same in the caller's buffer: n bytes at its front, which have room there ("a buffer long enough"); past them it is as it was.
 pub record Delivered (d : Description) (table f : List ℕ) (co : Coordinate) (r : Rect) (before after : List ℕ) (rows columns bytes : ℕ) : Type 0 where
   pub exact : Exact d table f co r rows columns (take bytes after)
   pub count : bytes ≡ r .h * r .w * sampleSize (d .kind)

@@ -37,7 +37,7 @@ abbrev pub Counted : List Page → WalkAnswer → Type 0
 Counted ps (Walked w) = w .pages ≡ length ps
 Counted ps (Refused r) = Unit {0}
 
--- a mark after so many visits, with the place that is visited next
+-- a mark after `visited` visits, with the place that is visited next
 abbrev pub marked : Mark → ℕ → ℕ → Mark
 marked m visited place = cond (ltb visited (m .until)) m (record { place = place; until = 2 * visited })
 

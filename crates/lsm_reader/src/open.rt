@@ -59,7 +59,7 @@ fn describe_walk(buf: &[u8], e: Endian, w: Walk) -> DescriptionAnswer
     }
 }
 
-// The words of the strip table: two for each strip of each full page. A number that passes 64 bits is said as the largest.
+// The words of the strip table: two for each strip of each full page. A number that passes 64 bits is capped at the largest.
 fn table_words(w: Walk) -> usize
     ensures { λ r. ⌜ r ≡ min (w .pages * stripsOf (w .first) * 2) (2 ^ 64 - 1) ⌝ }
 {

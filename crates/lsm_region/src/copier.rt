@@ -70,7 +70,7 @@ fn run(file: &[u8], table: &[usize], end: usize, cur: Cursor, out: &mut [u8])
     }
 }
 
-// The cursor moved on by so many rows of `row` bytes. A strip that ends before the place looked for is passed whole: the rows that
+// The cursor moved on by `rows` rows of `row` bytes. A strip that ends before the place looked for is passed whole: the rows that
 // begin in it are counted off, and the last of them reaches into the next strip.
 fn seek(table: &[usize], end: usize, cur: Cursor, rows: usize, row: usize) -> Cursor
     requires { ⌜ (2 * end ≤ length (now table)) × (cur .strip ≤ end) × (0 < row) ⌝ }

@@ -15,11 +15,11 @@ use Rattle.lsm_strips.specs.declared.StripRun.{StripRun}
 use Rattle.lsm_strips.specs.declared.Found.{Found}
 use Rattle.lsm_strips.specs.declared.Found.the-variants.{Strips as At, Refused}
 
--- The strips hold whole rows, and together so many of them.
+-- The strips hold whole rows, and together `height` of them.
 unfoldable pub wholeRowsOf : ℕ → List ℕ → ℕ → ℕ → ℕ → Bool
 wholeRowsOf row table i n height = wholeStrips row table i n && eqb (rowsIn row table i n) height
 
--- A table of so many words has the page whole, where a page has so many strips.
+-- A table of `words` words has the page whole, where a page has `strips` strips.
 abbrev pub pageIn : ℕ → ℕ → ℕ → Bool
 pageIn strips words page = not (eqb strips 0) && leb (2 * ((page + 1) * strips)) words
 

@@ -22,7 +22,7 @@ ghost use Rattle.lsm_format.specs.Picture.{planeFrom, filledStrips, regionFrom}
 ghost use Rattle.lsm_description.specs.Code.{descriptionOf};
 ghost use Rattle.lsm_strips.specs.Parts.{foundOf};
 
-// So many strips of the table, from the first on.
+// Strips that follow one another in the table: the first, and how many they are.
 pub struct StripRun {
     pub first: usize,
     pub count: usize,

@@ -19,7 +19,7 @@ ghost use Rattle.lsm_format.specs.Picture.{stripsPerPage, channelStrips, rowByt
 ghost use Rattle.lsm_description.specs.Code.{descriptionOf};
 ghost use Rattle.lsm_strips.specs.Parts.{foundOf, pageIn, pastTest};
 
-// Whether a table of so many words has this page whole, where a page has so many strips.
+// Whether a table of `words` words has this page whole, where a page has `strips` strips.
 fn has_page(strips: usize, words: usize, page: usize) -> bool
     ensures { λ r. ⌜ r ≡ pageIn strips words page ⌝ }
 {

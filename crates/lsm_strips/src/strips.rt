@@ -10,7 +10,7 @@ ghost use Rattle.lsm_format.specs.Code.{checkOf};
 ghost use Rattle.lsm_format.specs.Picture.{total, inside, inTurn};
 ghost use Rattle.lsm_strips.specs.Parts.{wholeRowsOf};
 
-// Whether a strip lies in a file of so many bytes. Its end can overflow, so it isn't reckoned.
+// Whether a strip lies in a file of `len` bytes. Its end can overflow, so it isn't computed.
 fn lies_within(offset: usize, count: usize, len: usize) -> bool
     ensures { λ r. ⌜ r ≡ leb (offset + count) len ⌝ }
 {
@@ -20,7 +20,7 @@ fn lies_within(offset: usize, count: usize, len: usize) -> bool
     offset <= len - count
 }
 
-// Whether each of the strips lies in a file of so many bytes.
+// Whether each of the strips lies in a file of `len` bytes.
 pub(crate) fn strips_inside(table: &[usize], first: usize, n: usize, len: usize) -> bool
     requires { ⌜ 2 * (first + n) ≤ length (now table) ⌝ }
     ensures { λ r. ⌜ r ≡ inside (now (table .entry)) len first n ⌝ }
@@ -100,7 +100,7 @@ pub(crate) fn strips_of_rows(
     rest == 0
 }
 
-// Whether the strips together have so many rows of `row` bytes, and `part` bytes more. What is still to come of these is counted down: the
+// Whether the strips together have `rows` rows of `row` bytes, and `part` bytes more. What is still to come of these is counted down: the
 // rows that begin in a strip are taken off, and the last of them reaches into the next.
 pub(crate) fn strips_reach(
     table: &[usize],

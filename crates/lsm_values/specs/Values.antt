@@ -11,7 +11,7 @@ unfoldable pub orNought : Result ℕ → ℕ
 orNought (accepted v) = v
 orNought (refused row) = 0
 
--- So many numbers of so many bytes, one after another from a place on.
+-- n numbers of `size` bytes, one after another from a place on.
 unfoldable pub values : ℕ → ℕ → Order → List ℕ → ℕ → List ℕ
 values zero size o f p = []
 values (suc n) size o f p = orNought (numberAt size o f p) ∷ values n size o f (p + size)

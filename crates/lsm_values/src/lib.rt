@@ -55,7 +55,7 @@ pub fn integer_width(ty: u16) -> Integer
     }
 }
 
-// The number of so many bytes at a place.
+// The number of one, two or four bytes at a place.
 pub fn read_number(buf: &[u8], off: usize, width: Width, e: Endian) -> U32
     ensures { λ r. ⌜ u32Of r ≡ numberAt (bytesOf width) (orderOf e) (now (buf .entry)) off ⌝ }
 {
@@ -119,7 +119,7 @@ pub fn read_scalar(buf: &[u8], ty: u16, count: u32, off: usize, e: Endian) -> Sc
     }
 }
 
-// A strip array in the file: so many numbers from a place on.
+// A strip array in the file: `count` numbers from a place on.
 pub struct StripArray {
     pub place: usize,
     pub count: usize,

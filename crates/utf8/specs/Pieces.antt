@@ -11,7 +11,7 @@ use Rattle.utf8.specs.declared.Row.the-variants.{Nothing, Begins}
 use Rattle.utf8.specs.declared.Piece.{Piece}
 use Rattle.utf8.specs.declared.Piece.the-variants.{Sequence, Subpart}
 
--- The ranges of so many followers. In Table 3-7 only the first follower has a range of its own.
+-- The ranges of n followers. In Table 3-7 only the first follower has a range of its own.
 abbrev pub ranges : ℕ → ℕ → ℕ → List (ℕ × ℕ)
 ranges zero low high = []
 ranges (suc n) low high = (low, high) ∷ replicate n tail

@@ -16,7 +16,7 @@ pairOf high low = cond (ltb high 16 && ltb low 16) (high * 16 + low) 256
 unfoldable pub pairAt : List ℕ → ℕ → ℕ
 pairAt text at = pairOf (digitOf (getD text at 0)) (digitOf (getD text (at + 1) 0))
 
--- A byte once, and a byte so many times, with the place after it: nothing where a number is no byte.
+-- A byte once, and a byte n times, with the place after it: nothing where a number is no byte.
 abbrev pub once : ℕ → ℕ → List ℕ × ℕ
 once b at = cond (ltb b 256) (b ∷ [], at + 2) ([], at)
 
@@ -46,7 +46,7 @@ bytesAt text from room = bytes room room text (min from (length text))
 unfoldable pub tailAt : List ℕ → ℕ → ℕ → List ℕ × ℕ
 tailAt text at room = cond (holdsAt text at 58) (bytesAt text (at + 1) room) ([], at)
 
--- The numbers of the line at a place, and its bytes, with room for so many of each; and where they end.
+-- The numbers of the line at a place, and its bytes, with room for `wide` and `long` of them; and where they end.
 unfoldable pub numbersOf : List ℕ → ℕ → ℕ → List ℕ × ℕ
 numbersOf text at wide = numbersAt text (at + 1) wide
 
