@@ -1,16 +1,46 @@
 -- `lsm_description::layout_for` meets its contract: `LsmLayout::new` and `expected_pages` refuse as the definition's two steps do, and the
--- test on the pages is its third. P and M are signed: stored as 32 bits and read back they are themselves (`p`, `m`). Assumes nothing.
+-- test on the pages is its third. What the two steps answer is said once, at the places where it is known. P and M are signed: stored as 32
+-- bits and read back they are themselves (`passed`). Assumes nothing.
 use mir.Syntax.{w32}
 use mir.Val.{toZ, ofZ}
-use mathlib.Core.Path.{_≡_, sym, ap, _∙_}
+use Prim.Native.Nat.{max}
+use mathlib.Core.Path.{_≡_}
 use borrow.Author.Tests.{eq-eqb, ne-eqb}
-use Rattle.lsm_format.specs.Answer.{bind}
+use Rattle.lsm_format.specs.Answer.{accepted, bind}
+use Rattle.lsm_format.specs.Scenes.{layout}
 use Rattle.lsm_format.specs.Open.{layoutFor}
-use Rattle.lsm_positions.specs.Code.{answerOf, pagesOf}
+use Rattle.lsm_format.proofs.Told.{told}
+use Rattle.lsm_cz_info.specs.declared.CzInfo.{CzInfo}
+use Rattle.lsm_positions.specs.Code.{layoutOf, answerOf, pagesOf}
 use borrow.Author.Needs.{needs}
 use Rattle.lsm_description.proofs.layout_for.Statement.{statement}
 use Rattle.lsm_description.proofs.layout_for.Tie as tie
 use Rattle.lsm_description.proofs.layout_for.Reads as reads
+
+-- ---- the places in the code, each seen from a later one: the layout asked for, the layout, the pages asked for
+
+abbrev info : tie.After-new → CzInfo
+info made = made .before .before .before .before .args .info
+
+abbrev made-of : tie.After-layout → tie.After-new
+made-of given = given .before .before
+
+abbrev given-of : tie.After-expected-pages → tie.After-layout
+given-of asked = asked .before .before
+
+-- ---- what the definitions answer there
+
+-- the layout that the code asked for is the one that the definition asks for
+passed : (made : tie.After-new) → answerOf (made .new .result) ≡ layout (info made .«dim_p») (info made .«dim_m») (max 1 (info made .«dim_z»))
+passed made =
+    let i = info made in
+    let p : toZ w32 (ofZ w32 (i .«dim_p»)) ≡ i .«dim_p» = search needs in
+    let m : toZ w32 (ofZ w32 (i .«dim_m»)) ≡ i .«dim_m» = search needs in
+    rw (← made .before .before .before .at-least-one .ensures .0) (rw (p, m) at (made .new .ensures))
+
+layout-is : (given : tie.After-layout) → let i = info (made-of given) in
+    layout (i .«dim_p») (i .«dim_m») (max 1 (i .«dim_z»)) ≡ accepted (layoutOf (given .layout .given .0 .0))
+layout-is given = told answerOf (passed (made-of given)) (given .layout .given .1)
 
 at-least-one-requires : tie.Need-at-least-one-requires
 at-least-one-requires c κs = search needs
@@ -30,16 +60,9 @@ enum-known-expected c = search needs
 returns : tie.Need-returns
 unfolding layoutFor bind
 returns c =
-    let i = c .before .before .before .before .before .before .before .before .before .before .before .before .args .info in
-    let p : toZ w32 (ofZ w32 (i .«dim_p»)) ≡ i .«dim_p» = search needs in
-    let m : toZ w32 (ofZ w32 (i .«dim_m»)) ≡ i .«dim_m» = search needs in
     let pages = c .before .before in
     let asked = pages .before .before in
-    let given = asked .before .before in
-    let made = given .before .before in
-    let depth = made .before .before .before in
-    let l = rw (p, m) at (sym (made .new .ensures) ∙ ap answerOf (given .layout .given .1)) in
-    rw (← depth .at-least-one .ensures .0, l, sym (asked .expected-pages .ensures) ∙ ap pagesOf (pages .expected .given .1), ne-eqb _ _ (c .if1 .taken))
+    rw (layout-is (given-of asked), told pagesOf (asked .expected-pages .ensures) (pages .expected .given .1), ne-eqb _ _ (c .if1 .taken))
 
 enum-known-r : tie.Need-enum-known-r
 enum-known-r c = search needs
@@ -50,40 +73,19 @@ enum-known-r-2 c = search needs
 returns-2 : tie.Need-returns-2
 unfolding layoutFor bind
 returns-2 c =
-    let i = c .before .before .before .before .before .before .before .before .before .before .before .before .args .info in
-    let p : toZ w32 (ofZ w32 (i .«dim_p»)) ≡ i .«dim_p» = search needs in
-    let m : toZ w32 (ofZ w32 (i .«dim_m»)) ≡ i .«dim_m» = search needs in
     let pages = c .before .before in
     let asked = pages .before .before in
-    let given = asked .before .before in
-    let made = given .before .before in
-    let depth = made .before .before .before in
-    let l = rw (p, m) at (sym (made .new .ensures) ∙ ap answerOf (given .layout .given .1)) in
-    rw (← depth .at-least-one .ensures .0, l, sym (asked .expected-pages .ensures) ∙ ap pagesOf (pages .expected .given .1), eq-eqb _ _ (c .if1 .left))
+    rw (layout-is (given-of asked), told pagesOf (asked .expected-pages .ensures) (pages .expected .given .1), eq-eqb _ _ (c .if1 .left))
 
 returns-3 : tie.Need-returns-3
 unfolding layoutFor bind
 returns-3 c =
-    let i = c .before .before .before .before .before .before .before .before .before .before .before .args .info in
-    let p : toZ w32 (ofZ w32 (i .«dim_p»)) ≡ i .«dim_p» = search needs in
-    let m : toZ w32 (ofZ w32 (i .«dim_m»)) ≡ i .«dim_m» = search needs in
     let asked = c .before .before .before in
-    let given = asked .before .before in
-    let made = given .before .before in
-    let depth = made .before .before .before in
-    let l = rw (p, m) at (sym (made .new .ensures) ∙ ap answerOf (given .layout .given .1)) in
-    rw (← depth .at-least-one .ensures .0, l, sym (asked .expected-pages .ensures) ∙ ap pagesOf (c .before .r .given .1))
+    rw (layout-is (given-of asked), told pagesOf (asked .expected-pages .ensures) (c .before .r .given .1))
 
 returns-4 : tie.Need-returns-4
 unfolding layoutFor bind
-returns-4 c =
-    let i = c .before .before .before .before .before .before .before .args .info in
-    let p : toZ w32 (ofZ w32 (i .«dim_p»)) ≡ i .«dim_p» = search needs in
-    let m : toZ w32 (ofZ w32 (i .«dim_m»)) ≡ i .«dim_m» = search needs in
-    let made = c .before .before .before in
-    let depth = made .before .before .before in
-    let l = rw (p, m) at (sym (made .new .ensures) ∙ ap answerOf (c .before .r2 .given .1)) in
-    rw (← depth .at-least-one .ensures .0, l)
+returns-4 c = rw (told answerOf (passed (c .before .before .before)) (c .before .r2 .given .1))
 
 pub layout-for-spec : {M : Type 1} → statement M
 layout-for-spec =
