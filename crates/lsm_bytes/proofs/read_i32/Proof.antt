@@ -2,9 +2,9 @@
 -- either contract is that an i32 which fits, stored and read back, is the same whole number (`toZ-ofZ`). Assumes nothing.
 use mir.ValLaws.{toZ-ofZ}
 use mir.Syntax.{w32}
-use mathlib.Core.Path.{sym, ap, _∙_}
 use Rattle.lsm_format.specs.Numbers.{i32At}
 use Rattle.lsm_format.specs.Answer.{bind}
+use Rattle.lsm_format.proofs.Told.{told}
 use Rattle.lsm_bytes.specs.Code.{u32Of}
 use borrow.Author.Needs.{needs}
 use Rattle.lsm_bytes.proofs.read_i32.Statement.{statement}
@@ -24,11 +24,11 @@ enum-told c = search needs
 
 returns : tie.Need-returns
 unfolding i32At bind
-returns c = rw (toZ-ofZ w32 (c .signed .result) (record { sfits = c .signed .ok }), sym (c .before .before .before .before .read-u32 .ensures) ∙ ap u32Of (c .before .before .n .given .1), c .signed .ensures)
+returns c = rw (toZ-ofZ w32 (c .signed .result) (record { sfits = c .signed .ok }), told u32Of (c .before .before .before .before .read-u32 .ensures) (c .before .before .n .given .1), c .signed .ensures)
 
 returns-2 : tie.Need-returns-2
 unfolding i32At bind
-returns-2 c = rw (sym (c .before .before .read-u32 .ensures) ∙ ap u32Of (c .enum-told .given .1))
+returns-2 c = rw (told u32Of (c .before .before .read-u32 .ensures) (c .enum-told .given .1))
 
 pub read-i32-spec : {M : Type 1} → statement M
 read-i32-spec =

@@ -1,9 +1,9 @@
 -- `lsm_c::look_up` meets its contract: words that are a description are looked up with it (`described`), others are refused before
 -- anything else, and `name` is as it was (`no-description`). Assumes nothing.
-use mathlib.Core.Path.{sym, ap, _∙_}
 use borrow.Author.Needs.{needs}
 use Rattle.lsm_description.specs.Code.{describedOf}
 use Rattle.lsm_c.proofs.Calls.{described, no-description}
+use Rattle.lsm_format.proofs.Told.{told}
 use Rattle.lsm_c.proofs.look_up.Statement.{statement}
 use Rattle.lsm_c.proofs.look_up.Tie as tie
 
@@ -26,12 +26,12 @@ returns : tie.Need-returns
 returns c =
     let known = c .before .before .before .before .before in
     let words = known .before .before in
-    described _ _ _ _ _ _ _ (sym (words .read-description .ensures) ∙ ap describedOf (known .d .given .1)) (c .before .before .channel .ensures)
+    described _ _ _ _ _ _ _ (told describedOf (words .read-description .ensures) (known .d .given .1)) (c .before .before .channel .ensures)
 
 returns-2 : tie.Need-returns-2
 returns-2 c =
     let words = c .before .before .before in
-    no-description _ _ _ _ _ (sym (words .read-description .ensures) ∙ ap describedOf (c .before .r .given .1))
+    no-description _ _ _ _ _ (told describedOf (words .read-description .ensures) (c .before .r .given .1))
 
 pub look-up-spec : {M : Type 1} → statement M
 look-up-spec =

@@ -1,9 +1,9 @@
 -- `lsm_description::describe` meets its contract: the agreement, then the layout, then the record field by field. A refusal is the
 -- callee's own; the strips' number is the length of the definition's list (`values-length`). Assumes nothing.
-use mathlib.Core.Path.{sym, ap, _∙_}
 use Rattle.lsm_format.specs.Answer.{bind}
 use Rattle.lsm_format.specs.Code.{checkOf}
 use Rattle.lsm_format.specs.Open as Open
+use Rattle.lsm_format.proofs.Told.{told}
 use Rattle.lsm_positions.specs.Code.{answerOf}
 use Rattle.lsm_values.proofs.Laws.{values-length}
 use borrow.Author.Needs.{needs}
@@ -24,7 +24,7 @@ returns : tie.Need-returns
 unfolding Open.describe bind
 returns c =
     let agreed = c .before .before .before in
-    λ o f. rw (sym (agreed .check-agreement .ensures o f) ∙ ap checkOf (c .before .r .given .1))
+    λ o f. rw (told checkOf (agreed .check-agreement .ensures o f) (c .before .r .given .1))
 
 layout-for-requires : tie.Need-layout-for-requires
 layout-for-requires c κs = search needs
@@ -41,7 +41,7 @@ returns-2 c =
     let laid = c .before .before .before in
     let accepted = laid .before in
     let agreed = accepted .before .before in
-    λ o f. rw (sym (agreed .check-agreement .ensures o f) ∙ ap checkOf (accepted .enum-told .given .1), sym (laid .layout-for .ensures) ∙ ap answerOf (c .before .r2 .given .1))
+    λ o f. rw (told checkOf (agreed .check-agreement .ensures o f) (accepted .enum-told .given .1), told answerOf (laid .layout-for .ensures) (c .before .r2 .given .1))
 
 at-least-one-requires : tie.Need-at-least-one-requires
 at-least-one-requires c κs = search needs
@@ -66,7 +66,7 @@ returns-3 c =
     let laid = count .before .before in
     let asked = laid .before .before in
     let agreed = asked .before in
-    λ o f. rw (sym (agreed .before .before .check-agreement .ensures o f) ∙ ap checkOf (agreed .enum-told .given .1), sym (asked .layout-for .ensures) ∙ ap answerOf (laid .l .given .1), values-length, ← count .at-least-one .ensures .0, ← depth .at-least-one2 .ensures .0)
+    λ o f. rw (told checkOf (agreed .before .before .check-agreement .ensures o f) (agreed .enum-told .given .1), told answerOf (asked .layout-for .ensures) (laid .l .given .1), values-length, ← count .at-least-one .ensures .0, ← depth .at-least-one2 .ensures .0)
 
 pub describe-spec : {M : Type 1} → statement M
 describe-spec =

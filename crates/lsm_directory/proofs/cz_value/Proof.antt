@@ -3,7 +3,8 @@
 use Prim.Native.Nat.{_*_, _^_}
 use Rattle.lsm_bytes.specs.Code.{u32Of}
 use Rattle.lsm_format.proofs.Directory.{type-size-small, cz-small, cz-no-offset, cz-is}
-use mathlib.Core.Path.{sym, ap, _∙_}
+use Rattle.lsm_format.proofs.Told.{told}
+use mathlib.Core.Path.{ap}
 use native.Mathlib.Nat.{mul-le-mul}
 use native.Mathlib.Omega.{arith}
 use borrow.Author.Needs.{needs}
@@ -35,7 +36,7 @@ returns-2 c =
     let r = c .before .before in
     let t = r .before .before in
     let s = t .before .before in
-    λ d. cz-no-offset _ _ _ _ _ _ d (ap (λ n. n * s .args .count) (t .tiff-type-size .ensures)) (r .before .if1 .left) (sym (r .read-u32 .ensures) ∙ ap u32Of (c .enum-told .given .1))
+    λ d. cz-no-offset _ _ _ _ _ _ d (ap (λ n. n * s .args .count) (t .tiff-type-size .ensures)) (r .before .if1 .left) (told u32Of (r .read-u32 .ensures) (c .enum-told .given .1))
 
 returns-3 : tie.Need-returns-3
 returns-3 c =
@@ -43,7 +44,7 @@ returns-3 c =
     let r = o .before .before in
     let t = r .before .before in
     let s = t .before .before in
-    λ d. cz-is _ _ _ _ _ _ d (ap (λ n. n * s .args .count) (t .tiff-type-size .ensures)) (r .before .if1 .left) _ (sym (r .read-u32 .ensures) ∙ ap u32Of (o .offset .given .1))
+    λ d. cz-is _ _ _ _ _ _ d (ap (λ n. n * s .args .count) (t .tiff-type-size .ensures)) (r .before .if1 .left) _ (told u32Of (r .read-u32 .ensures) (o .offset .given .1))
 
 pub cz-value-spec : {M : Type 1} → statement M
 cz-value-spec =

@@ -1,11 +1,11 @@
 -- The count is read, then the next pointer: a refusal of either is the rule's. That the pointer's place fits the machine follows from the
 -- count's being in the file.
-use mathlib.Core.Path.{sym, ap, _∙_}
 use native.Mathlib.Omega.{arith}
 use Rattle.lsm_format.specs.Answer.{bind}
 use Rattle.lsm_format.proofs.Numbers.{number-inside}
 use Rattle.lsm_bytes.specs.Code.{u16Of, u32Of}
 use Rattle.lsm_format.specs.Directory.{ends}
+use Rattle.lsm_format.proofs.Told.{told}
 use borrow.Author.Needs.{needs}
 use Rattle.lsm_directory.proofs.directory_ends.Statement.{statement}
 use Rattle.lsm_directory.proofs.directory_ends.Tie as tie
@@ -21,12 +21,12 @@ enum-told c = search needs
 
 returns : tie.Need-returns
 unfolding ends bind
-returns c = (rw (sym (c .before .before .read-u16 .ensures) ∙ ap u16Of (c .enum-told .given .1)), tt)
+returns c = (rw (told u16Of (c .before .before .read-u16 .ensures) (c .enum-told .given .1)), tt)
 
 add-read-u32 : tie.Need-add-read-u32
 add-read-u32 c =
     let r = c .before .before .before in
-    omega (arith, number-inside _ _ _ _ _ (sym (r .read-u16 .ensures) ∙ ap u16Of (c .before .n .given .1)))
+    omega (arith, number-inside _ _ _ _ _ (told u16Of (r .read-u16 .ensures) (c .before .n .given .1)))
 
 cast-read-u32 : tie.Need-cast-read-u32
 cast-read-u32 c = search needs
@@ -37,7 +37,7 @@ mul-read-u32 c = search needs
 add-read-u32-2 : tie.Need-add-read-u32-2
 add-read-u32-2 c =
     let r = c .before .before .before in
-    omega (arith, number-inside _ _ _ _ _ (sym (r .read-u16 .ensures) ∙ ap u16Of (c .before .n .given .1)))
+    omega (arith, number-inside _ _ _ _ _ (told u16Of (r .read-u16 .ensures) (c .before .n .given .1)))
 
 read-u32-requires : tie.Need-read-u32-requires
 read-u32-requires c κs = search needs
@@ -53,7 +53,7 @@ unfolding ends bind
 returns-2 c =
     let r = c .before .before in
     let n = r .before .before in
-    (rw (sym (n .before .before .read-u16 .ensures) ∙ ap u16Of (n .n .given .1), sym (r .read-u32 .ensures) ∙ ap u32Of (c .enum-told2 .given .1)), tt)
+    (rw (told u16Of (n .before .before .read-u16 .ensures) (n .n .given .1), told u32Of (r .read-u32 .ensures) (c .enum-told2 .given .1)), tt)
 
 cast-t8 : tie.Need-cast-t8
 cast-t8 c = search needs
@@ -66,7 +66,7 @@ unfolding ends bind
 returns-3 c =
     let r = c .before .before .before in
     let n = r .before .before in
-    (rw (sym (n .before .before .read-u16 .ensures) ∙ ap u16Of (n .n .given .1), sym (r .read-u32 .ensures) ∙ ap u32Of (c .before .next .given .1)), omega arith)
+    (rw (told u16Of (n .before .before .read-u16 .ensures) (n .n .given .1), told u32Of (r .read-u32 .ensures) (c .before .next .given .1)), omega arith)
 
 pub directory-ends-spec : {M : Type 1} → statement M
 directory-ends-spec =

@@ -1,7 +1,7 @@
 -- By the tag: a scalar, one of the strip arrays, the CZ entry, or nothing. What the value's reader answers is what the rule reads.
 use Rattle.lsm_values.specs.Code.{scalarOf, arrayOf}
 use Rattle.lsm_format.specs.Answer.{bind}
-use mathlib.Core.Path.{sym, ap, _∙_}
+use Rattle.lsm_format.proofs.Told.{told}
 use borrow.Author.Needs.{needs}
 use Rattle.lsm_directory.proofs.value_by.Statement.{statement}
 use Rattle.lsm_directory.proofs.value_by.Tie as tie
@@ -64,49 +64,49 @@ returns : tie.Need-returns
 unfolding bind
 returns c =
     let s = c .before .before .before .before in
-    λ d. rw (s .before .before .t .given .1, sym (s .read-scalar .ensures) ∙ ap scalarOf (c .before .before .v .given .1)) (c .field-value .ensures _ _ d)
+    λ d. rw (s .before .before .t .given .1, told scalarOf (s .read-scalar .ensures) (c .before .before .v .given .1)) (c .field-value .ensures _ _ d)
 
 returns-2 : tie.Need-returns-2
 unfolding bind
 returns-2 c =
     let s = c .before .before .before in
-    λ d. rw (s .before .before .t .given .1, sym (s .read-scalar .ensures) ∙ ap scalarOf (c .before .r .given .1))
+    λ d. rw (s .before .before .t .given .1, told scalarOf (s .read-scalar .ensures) (c .before .r .given .1))
 
 returns-3 : tie.Need-returns-3
 unfolding bind
 returns-3 c =
     let s = c .before .before .before in
-    λ d. rw (s .before .enum-told .given .1, sym (s .read-array .ensures) ∙ ap (arrayOf _ _) (c .before .a .given .1))
+    λ d. rw (s .before .enum-told .given .1, told (arrayOf _ _) (s .read-array .ensures) (c .before .a .given .1))
 
 returns-4 : tie.Need-returns-4
 unfolding bind
 returns-4 c =
     let s = c .before .before in
-    λ d. rw (s .before .enum-told .given .1, sym (s .read-array .ensures) ∙ ap (arrayOf _ _) (c .enum-told2 .given .1))
+    λ d. rw (s .before .enum-told .given .1, told (arrayOf _ _) (s .read-array .ensures) (c .enum-told2 .given .1))
 
 returns-5 : tie.Need-returns-5
 unfolding bind
 returns-5 c =
     let s = c .before .before in
-    λ d. rw (s .before .enum-told .given .1, sym (s .read-array .ensures) ∙ ap (arrayOf _ _) (c .enum-told3 .given .1))
+    λ d. rw (s .before .enum-told .given .1, told (arrayOf _ _) (s .read-array .ensures) (c .enum-told3 .given .1))
 
 returns-6 : tie.Need-returns-6
 unfolding bind
 returns-6 c =
     let s = c .before .before .before in
-    λ d. rw (s .before .enum-told4 .given .1, sym (s .read-array2 .ensures) ∙ ap (arrayOf _ _) (c .before .a2 .given .1))
+    λ d. rw (s .before .enum-told4 .given .1, told (arrayOf _ _) (s .read-array2 .ensures) (c .before .a2 .given .1))
 
 returns-7 : tie.Need-returns-7
 unfolding bind
 returns-7 c =
     let s = c .before .before in
-    λ d. rw (s .before .enum-told4 .given .1, sym (s .read-array2 .ensures) ∙ ap (arrayOf _ _) (c .enum-told5 .given .1))
+    λ d. rw (s .before .enum-told4 .given .1, told (arrayOf _ _) (s .read-array2 .ensures) (c .enum-told5 .given .1))
 
 returns-8 : tie.Need-returns-8
 unfolding bind
 returns-8 c =
     let s = c .before .before in
-    λ d. rw (s .before .enum-told4 .given .1, sym (s .read-array2 .ensures) ∙ ap (arrayOf _ _) (c .enum-told6 .given .1))
+    λ d. rw (s .before .enum-told4 .given .1, told (arrayOf _ _) (s .read-array2 .ensures) (c .enum-told6 .given .1))
 
 returns-9 : tie.Need-returns-9
 returns-9 c = λ d. rw (c .before .enum-told7 .given .1) (c .cz-value .ensures d)

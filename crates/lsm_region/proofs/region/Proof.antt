@@ -1,8 +1,8 @@
 -- `lsm_region::region` meets its contract. Assumes nothing.
 use borrow.Author.Needs.{needs}
+use Rattle.lsm_format.proofs.Told.{told}
 use Rattle.lsm_region.proofs.region.Statement.{statement}
 use Rattle.lsm_region.proofs.region.Tie as tie
-use mathlib.Core.Path.{sym, ap, _∙_}
 use Rattle.lsm_strips.specs.Parts.{foundOf}
 use Rattle.lsm_region.proofs.Answering.{ready-part, pictured-as, pictured-refused, region-unfit, region-fit}
 
@@ -13,7 +13,7 @@ enum-known-strips : tie.Need-enum-known-strips
 enum-known-strips c = search needs
 
 deliver-requires : tie.Need-deliver-requires
-deliver-requires c κs = ready-part _ _ _ _ _ _ (sym (c .before .before .before .before .region-from .ensures) ∙ ap foundOf (c .before .before .strips .given .1))
+deliver-requires c κs = ready-part _ _ _ _ _ _ (told foundOf (c .before .before .before .before .region-from .ensures) (c .before .before .strips .given .1))
 
 enum-known-unfit : tie.Need-enum-known-unfit
 enum-known-unfit c = search needs
@@ -24,10 +24,10 @@ same-length c = search needs
 returns : tie.Need-returns
 returns c =
     let p = c .before .before .before .before .before in
-    pictured-as (region-fit _ _ _ _ _ _ (sym (p .before .before .region-from .ensures) ∙ ap foundOf (p .strips .given .1))) (c .before .before .deliver .ensures)
+    pictured-as (region-fit _ _ _ _ _ _ (told foundOf (p .before .before .region-from .ensures) (p .strips .given .1))) (c .before .before .deliver .ensures)
 
 returns-2 : tie.Need-returns-2
-returns-2 c = pictured-refused _ _ _ (region-unfit _ _ _ _ _ _ (sym (c .before .before .before .region-from .ensures) ∙ ap foundOf (c .before .unfit .given .1)))
+returns-2 c = pictured-refused _ _ _ (region-unfit _ _ _ _ _ _ (told foundOf (c .before .before .before .region-from .ensures) (c .before .unfit .given .1)))
 
 pub region-spec : {M : Type 1} → statement M
 region-spec =

@@ -3,15 +3,16 @@
 use borrow.Author.Needs.{needs}
 use Rattle.lsm_strips.proofs.region_from.Statement.{statement}
 use Rattle.lsm_strips.proofs.region_from.Tie as tie
-use mathlib.Core.Path.{_≡_, sym, ap, _∙_}
+use mathlib.Core.Path.{_≡_, _∙_}
 use Rattle.lsm_format.specs.Answer.{accepted}
 use Rattle.lsm_format.specs.Code.{checkOf}
 use Rattle.lsm_description.specs.Code.{descriptionOf}
 use Rattle.lsm_format.specs.Picture.{sceneThere}
+use Rattle.lsm_format.proofs.Told.{told}
 use Rattle.lsm_strips.proofs.Asking.{region-outside, region-off, region-within, region-there}
 
 there : (c : tie.After-enum-told) → sceneThere (descriptionOf (c .before .before .before .before .before .args .d)) (c .before .before .before .before .before .args .co .scene) ≡ accepted tt
-there c = sym (c .before .before .checked-scene .ensures) ∙ ap checkOf (c .enum-told .given .1)
+there c = told checkOf (c .before .before .checked-scene .ensures) (c .enum-told .given .1)
 
 checked-scene-requires : tie.Need-checked-scene-requires
 checked-scene-requires c κs = search needs
@@ -28,7 +29,7 @@ enum-told-2 c = search needs
 filled-strips-requires : tie.Need-filled-strips-requires
 filled-strips-requires c κs =
     let k = c .before .before in
-    region-there _ _ _ _ _ (there (k .before)) (sym (k .checked-region .ensures) ∙ ap checkOf (c .enum-told2 .given .1))
+    region-there _ _ _ _ _ (there (k .before)) (told checkOf (k .checked-region .ensures) (c .enum-told2 .given .1))
 
 enum-known-outside : tie.Need-enum-known-outside
 enum-known-outside c = search needs
@@ -40,15 +41,15 @@ returns : tie.Need-returns
 returns c =
     let e = c .before in
     let k = e .before .before in
-    c .filled-strips .ensures ∙ region-within _ _ _ _ _ _ _ (there (k .before)) (sym (k .checked-region .ensures) ∙ ap checkOf (e .enum-told2 .given .1))
+    c .filled-strips .ensures ∙ region-within _ _ _ _ _ _ _ (there (k .before)) (told checkOf (k .checked-region .ensures) (e .enum-told2 .given .1))
 
 returns-2 : tie.Need-returns-2
 returns-2 c =
     let k = c .before .before .before in
-    region-off _ _ _ _ _ _ _ (there (k .before)) (sym (k .checked-region .ensures) ∙ ap checkOf (c .before .outside .given .1))
+    region-off _ _ _ _ _ _ _ (there (k .before)) (told checkOf (k .checked-region .ensures) (c .before .outside .given .1))
 
 returns-3 : tie.Need-returns-3
-returns-3 c = region-outside _ _ _ _ _ _ (sym (c .before .before .before .checked-scene .ensures) ∙ ap checkOf (c .before .missing .given .1))
+returns-3 c = region-outside _ _ _ _ _ _ (told checkOf (c .before .before .before .checked-scene .ensures) (c .before .missing .given .1))
 
 pub region-from-spec : {M : Type 1} → statement M
 region-from-spec =

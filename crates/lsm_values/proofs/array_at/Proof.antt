@@ -3,11 +3,12 @@
 -- bytes keep the product in 64 bits. In the answers, `i` is the call of `integer_width`, and `w` the width that it gave. Assumes nothing.
 use native.Mathlib.Omega.{arith}
 use native.Mathlib.Nat.{mul-le-mul}
-use mathlib.Core.Path.{sym, ap, _∙_}
+use mathlib.Core.Path.{sym}
 use Rattle.lsm_values.specs.Values.{values}
 use Rattle.lsm_values.specs.Code.{integerOf}
 use Rattle.lsm_values.proofs.Laws.{array-many, array-empty, array-no-number, array-past, array-there}
 use borrow.Author.Needs.{needs}
+use Rattle.lsm_format.proofs.Told.{told}
 use Rattle.lsm_values.proofs.array_at.Statement.{statement}
 use Rattle.lsm_values.proofs.array_at.Tie as tie
 
@@ -30,13 +31,13 @@ enum-told c = search needs
 returns-3 : tie.Need-returns-3
 returns-3 c =
     let i = c .before .before in
-    array-no-number _ _ _ _ _ (i .before .before .if1 .left) (i .before .if2 .left) (sym (i .integer-width .ensures) ∙ ap integerOf (c .enum-told .given .1))
+    array-no-number _ _ _ _ _ (i .before .before .if1 .left) (i .before .if2 .left) (told integerOf (i .integer-width .ensures) (c .enum-told .given .1))
 
 returns-4 : tie.Need-returns-4
 returns-4 c =
     let w = c .before .before in
     let i = w .before .before in
-    array-past _ _ _ _ _ _ (i .before .before .if1 .left) (i .before .if2 .left) (sym (i .integer-width .ensures) ∙ ap integerOf (w .width .given .1)) (omega arith)
+    array-past _ _ _ _ _ _ (i .before .before .if1 .left) (i .before .if2 .left) (told integerOf (i .integer-width .ensures) (w .width .given .1)) (omega arith)
 
 sub-if4 : tie.Need-sub-if4
 sub-if4 c = search needs
@@ -54,13 +55,13 @@ returns-5 : tie.Need-returns-5
 returns-5 c =
     let w = c .before .before .before .before in
     let i = w .before .before in
-    array-past _ _ _ _ _ _ (i .before .before .if1 .left) (i .before .if2 .left) (sym (i .integer-width .ensures) ∙ ap integerOf (w .width .given .1)) (rw (sym (c .before .width-bytes .ensures .0)) (omega arith))
+    array-past _ _ _ _ _ _ (i .before .before .if1 .left) (i .before .if2 .left) (told integerOf (i .integer-width .ensures) (w .width .given .1)) (rw (sym (c .before .width-bytes .ensures .0)) (omega arith))
 
 returns-6 : tie.Need-returns-6
 returns-6 c =
     let w = c .before .before .before .before in
     let i = w .before .before in
-    array-there _ _ _ _ _ _ (i .before .before .if1 .left) (i .before .if2 .left) (sym (i .integer-width .ensures) ∙ ap integerOf (w .width .given .1)) (rw (sym (c .before .width-bytes .ensures .0)) (omega arith))
+    array-there _ _ _ _ _ _ (i .before .before .if1 .left) (i .before .if2 .left) (told integerOf (i .integer-width .ensures) (w .width .given .1)) (rw (sym (c .before .width-bytes .ensures .0)) (omega arith))
 
 pub array-at-spec : {M : Type 1} → statement M
 array-at-spec =

@@ -1,8 +1,9 @@
 -- `lsm_values::read_array` meets its contract: the checks in their order, type, place, array (`array-no-type`, `array-nowhere`,
 -- `array-after`). `value_place` needs a size of at most 8, which every type has. Assumes nothing.
 use native.Mathlib.Omega.{arith}
-use mathlib.Core.Path.{sym, ap, _∙_}
+use mathlib.Core.Path.{_∙_}
 use Rattle.lsm_format.proofs.Directory.{type-size-small, array-no-type, array-nowhere}
+use Rattle.lsm_format.proofs.Told.{told}
 use Rattle.lsm_values.specs.Code.{placeOf}
 use Rattle.lsm_values.proofs.Laws.{array-after}
 use borrow.Author.Needs.{needs}
@@ -31,12 +32,12 @@ returns-2 : tie.Need-returns-2
 returns-2 c =
     let p = c .before .before in
     let v = p .before .before in
-    c .array-at .ensures ∙ array-after _ _ _ _ _ _ _ (v .before .before .tiff-type-size .ensures) (v .before .if1 .left) (sym (v .value-place .ensures) ∙ ap placeOf (p .place .given .1))
+    c .array-at .ensures ∙ array-after _ _ _ _ _ _ _ (v .before .before .tiff-type-size .ensures) (v .before .if1 .left) (told placeOf (v .value-place .ensures) (p .place .given .1))
 
 returns-3 : tie.Need-returns-3
 returns-3 c =
     let v = c .before .before in
-    array-nowhere _ _ _ _ _ _ (v .before .before .tiff-type-size .ensures) (v .before .if1 .left) _ (sym (v .value-place .ensures) ∙ ap placeOf (c .enum-told .given .1))
+    array-nowhere _ _ _ _ _ _ (v .before .before .tiff-type-size .ensures) (v .before .if1 .left) _ (told placeOf (v .value-place .ensures) (c .enum-told .given .1))
 
 pub read-array-spec : {M : Type 1} → statement M
 read-array-spec =

@@ -4,6 +4,7 @@
 use native.Mathlib.Omega.{arith}
 use mathlib.Core.Path.{sym, ap, _∙_}
 use Rattle.lsm_format.proofs.Directory.{type-size-small, scalar-no-type, scalar-no-count, scalar-nowhere, scalar-no-number, scalar-is}
+use Rattle.lsm_format.proofs.Told.{told}
 use Rattle.lsm_values.specs.Code.{placeOf, integerOf}
 use Rattle.lsm_bytes.specs.Code.{u32Of}
 use borrow.Author.Needs.{needs}
@@ -55,7 +56,7 @@ returns-3 c =
     let t = v .before .before .before in
     sym (ap u32Of (c .before .n .given .1)) ∙ n .read-number .ensures
     ∙ scalar-is _ _ _ _ _ _ (t .tiff-type-size .ensures) (v .before .before .if1 .left) (v .before .if2 .left) _
-    (sym (v .value-place .ensures) ∙ ap placeOf (p .place .given .1)) _ (sym (i .integer-width .ensures) ∙ ap integerOf (n .before .before .width .given .1))
+    (told placeOf (v .value-place .ensures) (p .place .given .1)) _ (told integerOf (i .integer-width .ensures) (n .before .before .width .given .1))
 
 returns-4 : tie.Need-returns-4
 returns-4 c =
@@ -66,7 +67,7 @@ returns-4 c =
     let t = v .before .before .before in
     sym (ap u32Of (c .enum-told .given .1)) ∙ n .read-number .ensures
     ∙ scalar-is _ _ _ _ _ _ (t .tiff-type-size .ensures) (v .before .before .if1 .left) (v .before .if2 .left) _
-    (sym (v .value-place .ensures) ∙ ap placeOf (p .place .given .1)) _ (sym (i .integer-width .ensures) ∙ ap integerOf (n .before .before .width .given .1))
+    (told placeOf (v .value-place .ensures) (p .place .given .1)) _ (told integerOf (i .integer-width .ensures) (n .before .before .width .given .1))
 
 returns-5 : tie.Need-returns-5
 returns-5 c =
@@ -75,14 +76,14 @@ returns-5 c =
     let v = p .before .before in
     let t = v .before .before .before in
     scalar-no-number _ _ _ _ _ _ (t .tiff-type-size .ensures) (v .before .before .if1 .left) (v .before .if2 .left) _
-    (sym (v .value-place .ensures) ∙ ap placeOf (p .place .given .1)) (sym (i .integer-width .ensures) ∙ ap integerOf (c .enum-told2 .given .1))
+    (told placeOf (v .value-place .ensures) (p .place .given .1)) (told integerOf (i .integer-width .ensures) (c .enum-told2 .given .1))
 
 returns-6 : tie.Need-returns-6
 returns-6 c =
     let v = c .before .before in
     let t = v .before .before .before in
     scalar-nowhere _ _ _ _ _ _ (t .tiff-type-size .ensures) (v .before .before .if1 .left) _
-    (sym (v .value-place .ensures) ∙ ap placeOf (c .enum-told3 .given .1))
+    (told placeOf (v .value-place .ensures) (c .enum-told3 .given .1))
 
 pub read-scalar-spec : {M : Type 1} → statement M
 read-scalar-spec =

@@ -2,9 +2,9 @@
 -- is 0 (`value-past`). The division says without a product whether value `i` is in the file (`past-them`, `among-them`); so the product
 -- and the sum after it fit. Assumes nothing.
 use Rattle.lsm_format.specs.Answer.{accepted, refused, parse}
+use Rattle.lsm_format.proofs.Told.{told}
 use Rattle.lsm_values.specs.Values.{orNought}
 use native.Mathlib.Omega.{arith}
-use mathlib.Core.Path.{sym, ap, _∙_}
 use Rattle.lsm_bytes.specs.Code.{u32Of}
 use Rattle.lsm_values.proofs.Laws.{value-none, value-past, value-is, among-them, past-them}
 use borrow.Author.Needs.{needs}
@@ -55,13 +55,13 @@ returns-4 : tie.Need-returns-4
 unfolding orNought
 returns-4 c =
     let r = c .before .before .before in
-    value-is _ _ _ _ _ _ (omega arith) (accepted _) (rw (r .before .before .before .before .before .before .width-bytes .ensures .0) at (sym (r .read-number .ensures) ∙ ap u32Of (c .before .n .given .1)))
+    value-is _ _ _ _ _ _ (omega arith) (accepted _) (rw (r .before .before .before .before .before .before .width-bytes .ensures .0) at (told u32Of (r .read-number .ensures) (c .before .n .given .1)))
 
 returns-5 : tie.Need-returns-5
 unfolding orNought
 returns-5 c =
     let r = c .before .before in
-    value-is _ _ _ _ _ _ (omega arith) (refused parse) (rw (r .before .before .before .before .before .before .width-bytes .ensures .0) at (sym (r .read-number .ensures) ∙ ap u32Of (c .enum-told .given .1)))
+    value-is _ _ _ _ _ _ (omega arith) (refused parse) (rw (r .before .before .before .before .before .before .width-bytes .ensures .0) at (told u32Of (r .read-number .ensures) (c .enum-told .given .1)))
 
 pub strip-value-spec : {M : Type 1} → statement M
 strip-value-spec =

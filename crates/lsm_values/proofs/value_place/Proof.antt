@@ -3,8 +3,8 @@
 use Prim.Native.Nat.{_^_}
 use native.Mathlib.Nat.{mul-le-mul}
 use native.Mathlib.Omega.{arith}
-use mathlib.Core.Path.{sym, ap, _∙_}
 use Rattle.lsm_format.proofs.Directory.{place-in-entry, place-by-offset}
+use Rattle.lsm_format.proofs.Told.{told}
 use Rattle.lsm_bytes.specs.Code.{u32Of}
 use borrow.Author.Needs.{needs}
 use Rattle.lsm_values.proofs.value_place.Statement.{statement}
@@ -31,12 +31,12 @@ enum-told c = search needs
 returns-2 : tie.Need-returns-2
 returns-2 c =
     let r = c .before .before .before in
-    place-by-offset _ _ _ _ _ _ (r .before .if1 .left) (sym (r .read-u32 .ensures) ∙ ap u32Of (c .before .p .given .1))
+    place-by-offset _ _ _ _ _ _ (r .before .if1 .left) (told u32Of (r .read-u32 .ensures) (c .before .p .given .1))
 
 returns-3 : tie.Need-returns-3
 returns-3 c =
     let r = c .before .before in
-    place-by-offset _ _ _ _ _ _ (r .before .if1 .left) (sym (r .read-u32 .ensures) ∙ ap u32Of (c .enum-told .given .1))
+    place-by-offset _ _ _ _ _ _ (r .before .if1 .left) (told u32Of (r .read-u32 .ensures) (c .enum-told .given .1))
 
 pub value-place-spec : {M : Type 1} → statement M
 value-place-spec =

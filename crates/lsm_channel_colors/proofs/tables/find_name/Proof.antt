@@ -1,9 +1,9 @@
 -- `lsm_channel_colors::tables::find_name` meets its contract: at each `return` the tests that led there say which case of `nameSpan` holds.
 -- Assumes nothing.
 use native.Mathlib.Omega.{arith}
-use mathlib.Core.Path.{sym, ap, _∙_}
 use borrow.Author.Needs.{needs}
 use Rattle.lsm_format.proofs.Words.{told-value, told-overflow, word-some, word-none}
+use Rattle.lsm_format.proofs.Told.{told}
 use Rattle.lsm_channel_colors.specs.Tables.{spanOf}
 use Rattle.lsm_channel_colors.proofs.Signed.{pointed-told, no-names}
 use Rattle.lsm_channel_colors.proofs.Naming.{named-past, named-none, named-long, named-given}
@@ -55,7 +55,7 @@ returns-3 c =
     let a = r .before .before .before .before in
     let t = a .before .before .before .before in
     let s = t .before .before in
-    named-none _ _ _ _ _ _ (pointed-told _ (s .fits .names) (t .table-of .ensures) (a .before .before .table .given .1)) _ (word-some _ _ (told-value _ (a .checked-add .ensures) (r .before .before .first .given .1)) .0) (sym (r .find-record .ensures) ∙ ap spanOf (c .enum-told3 .given .1))
+    named-none _ _ _ _ _ _ (pointed-told _ (s .fits .names) (t .table-of .ensures) (a .before .before .table .given .1)) _ (word-some _ _ (told-value _ (a .checked-add .ensures) (r .before .before .first .given .1)) .0) (told spanOf (r .find-record .ensures) (c .enum-told3 .given .1))
 
 returns-4 : tie.Need-returns-4
 returns-4 c =
@@ -63,7 +63,7 @@ returns-4 c =
     let a = r .before .before .before .before in
     let t = a .before .before .before .before in
     let s = t .before .before in
-    named-long _ _ _ _ _ _ (pointed-told _ (s .fits .names) (t .table-of .ensures) (a .before .before .table .given .1)) _ _ _ (word-some _ _ (told-value _ (a .checked-add .ensures) (r .before .before .first .given .1)) .0) (sym (r .find-record .ensures) ∙ ap spanOf (c .before .before .start .given .1)) (omega arith)
+    named-long _ _ _ _ _ _ (pointed-told _ (s .fits .names) (t .table-of .ensures) (a .before .before .table .given .1)) _ _ _ (word-some _ _ (told-value _ (a .checked-add .ensures) (r .before .before .first .given .1)) .0) (told spanOf (r .find-record .ensures) (c .before .before .start .given .1)) (omega arith)
 
 returns-5 : tie.Need-returns-5
 returns-5 c =
@@ -71,7 +71,7 @@ returns-5 c =
     let a = r .before .before .before .before in
     let t = a .before .before .before .before in
     let s = t .before .before in
-    named-given _ _ _ _ _ _ (pointed-told _ (s .fits .names) (t .table-of .ensures) (a .before .before .table .given .1)) _ _ _ (word-some _ _ (told-value _ (a .checked-add .ensures) (r .before .before .first .given .1)) .0) (sym (r .find-record .ensures) ∙ ap spanOf (c .before .before .start .given .1)) (omega arith)
+    named-given _ _ _ _ _ _ (pointed-told _ (s .fits .names) (t .table-of .ensures) (a .before .before .table .given .1)) _ _ _ (word-some _ _ (told-value _ (a .checked-add .ensures) (r .before .before .first .given .1)) .0) (told spanOf (r .find-record .ensures) (c .before .before .start .given .1)) (omega arith)
 
 pub find-name-spec : {M : Type 1} → statement M
 find-name-spec =

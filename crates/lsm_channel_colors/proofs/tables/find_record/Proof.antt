@@ -1,11 +1,12 @@
 -- `lsm_channel_colors::tables::find_record` meets its contract: the record of the channel from the first place is that of the channels left
 -- from here. Assumes nothing.
 use native.Mathlib.Omega.{arith}
-use mathlib.Core.Path.{_≡_, refl, sym, ap, _∙_}
+use mathlib.Core.Path.{_≡_, refl, sym, _∙_}
 use borrow.Author.Needs.{needs}
 use Rattle.lsm_format.specs.Code.{orderOf}
 use Rattle.lsm_format.specs.Channels.{recordOf}
 use Rattle.lsm_format.proofs.Channels.{record-last, record-ends, record-next, record-inside}
+use Rattle.lsm_format.proofs.Told.{told}
 use Rattle.lsm_channel_colors.specs.Tables.{spanOf}
 use Rattle.lsm_channel_colors.proofs.tables.find_record.Statement.{statement}
 use Rattle.lsm_channel_colors.proofs.tables.find_record.Tie as tie
@@ -31,12 +32,12 @@ enum-told c = search needs
 returns : tie.Need-returns Inv-loop μ-loop
 returns c =
     let t = c .before .before .before in
-    record-ends _ _ _ _ (t .loop-test .taken) (sym (c .before .before .name-record .ensures) ∙ ap spanOf (c .enum-told .given .1)) ∙ sym (t .before .loop .inv)
+    record-ends _ _ _ _ (t .loop-test .taken) (told spanOf (c .before .before .name-record .ensures) (c .enum-told .given .1)) ∙ sym (t .before .loop .inv)
 
 add-place : tie.Need-add-place Inv-loop μ-loop
 add-place c =
     let r = c .before .before .before in
-    omega (arith, record-inside _ _ _ _ _ (sym (r .name-record .ensures) ∙ ap spanOf (c .before .start .given .1)))
+    omega (arith, record-inside _ _ _ _ _ (told spanOf (r .name-record .ensures) (c .before .start .given .1)))
 
 sub-left : tie.Need-sub-left Inv-loop μ-loop
 sub-left c = search needs
@@ -47,7 +48,7 @@ loop-less c = search needs
 loop-again : tie.Need-loop-again Inv-loop μ-loop
 loop-again c =
     let r = c .before .before .before in
-    r .before .before .loop .inv ∙ record-next _ _ _ _ _ _ (r .before .loop-test .taken) (sym (r .name-record .ensures) ∙ ap spanOf (c .before .start .given .1))
+    r .before .before .loop .inv ∙ record-next _ _ _ _ _ _ (r .before .loop-test .taken) (told spanOf (r .name-record .ensures) (c .before .start .given .1))
 
 name-record-requires-2 : tie.Need-name-record-requires-2 Inv-loop μ-loop
 name-record-requires-2 c κs = search needs

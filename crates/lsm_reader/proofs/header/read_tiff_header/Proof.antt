@@ -1,9 +1,9 @@
 -- `lsm_reader::header::read_tiff_header` meets its contract: length, order mark, magic, each by the callee's equation. The first two bytes
 -- may be read since there are eight. Assumes nothing.
-use mathlib.Core.Path.{sym, ap, _∙_}
 use borrow.Author.Tests.{eq-eqb, ne-eqb, le-leb, lt-leb}
 use Rattle.lsm_format.specs.Answer.{bind}
 use Rattle.lsm_format.specs.Open.{tiffHeader}
+use Rattle.lsm_format.proofs.Told.{told}
 use Rattle.lsm_bytes.specs.Code.{u16Of}
 use Rattle.lsm_reader.specs.Header.{headerOf}
 use borrow.Author.Needs.{needs}
@@ -43,7 +43,7 @@ returns-2 c =
     let order = number .before .before in
     let mark = order .before .before in
     let long = mark .before .before .before in
-    rw (le-leb _ _ (long .if1 .left), sym (mark .order-mark .ensures) ∙ ap headerOf (order .e .given .1), sym (number .read-u16 .ensures) ∙ ap u16Of (c .enum-told .given .1))
+    rw (le-leb _ _ (long .if1 .left), told headerOf (mark .order-mark .ensures) (order .e .given .1), told u16Of (number .read-u16 .ensures) (c .enum-told .given .1))
 
 returns-3 : tie.Need-returns-3
 unfolding tiffHeader bind
@@ -53,7 +53,7 @@ returns-3 c =
     let order = number .before .before in
     let mark = order .before .before in
     let long = mark .before .before .before in
-    rw (le-leb _ _ (long .if1 .left), sym (mark .order-mark .ensures) ∙ ap headerOf (order .e .given .1), sym (number .read-u16 .ensures) ∙ ap u16Of (value .magic .given .1), ne-eqb _ 42 (c .if2 .taken))
+    rw (le-leb _ _ (long .if1 .left), told headerOf (mark .order-mark .ensures) (order .e .given .1), told u16Of (number .read-u16 .ensures) (value .magic .given .1), ne-eqb _ 42 (c .if2 .taken))
 
 enum-known-r : tie.Need-enum-known-r
 enum-known-r c = search needs
@@ -66,14 +66,14 @@ returns-4 c =
     let order = number .before .before in
     let mark = order .before .before in
     let long = mark .before .before .before in
-    rw (le-leb _ _ (long .if1 .left), sym (mark .order-mark .ensures) ∙ ap headerOf (order .e .given .1), sym (number .read-u16 .ensures) ∙ ap u16Of (value .magic .given .1), eq-eqb _ 42 (c .if2 .left))
+    rw (le-leb _ _ (long .if1 .left), told headerOf (mark .order-mark .ensures) (order .e .given .1), told u16Of (number .read-u16 .ensures) (value .magic .given .1), eq-eqb _ 42 (c .if2 .left))
 
 returns-5 : tie.Need-returns-5
 unfolding tiffHeader bind
 returns-5 c =
     let mark = c .before .before .before in
     let long = mark .before .before .before in
-    rw (le-leb _ _ (long .if1 .left), sym (mark .order-mark .ensures) ∙ ap headerOf (c .before .r .given .1))
+    rw (le-leb _ _ (long .if1 .left), told headerOf (mark .order-mark .ensures) (c .before .r .given .1))
 
 pub read-tiff-header-spec : {M : Type 1} → statement M
 read-tiff-header-spec =

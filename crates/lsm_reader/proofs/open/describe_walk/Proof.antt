@@ -1,11 +1,11 @@
 -- The checks are those of `describeWalk` in its order, one return for each that refuses. A name below is what is known by then: the first
 -- full page, that it is not compressed (`plain`), the kind of its samples, the CZ entry, the block.
-use mathlib.Core.Path.{sym, ap, _∙_}
 use denote.Ref.{now}
 use borrow.Author.Tests.{eq-eqb, ne-eqb}
 use Rattle.lsm_format.specs.Answer.{bind}
 use Rattle.lsm_format.specs.Code.{orderOf}
 use Rattle.lsm_format.specs.Open as Open
+use Rattle.lsm_format.proofs.Told.{told}
 use Rattle.lsm_cz_info.specs.Code.{czOf}
 use Rattle.lsm_description.specs.Code.{sampleOf}
 use borrow.Author.Needs.{needs}
@@ -42,7 +42,7 @@ returns-3 c =
     let sampled = c .before .before .before in
     let plain = sampled .before in
     let page = plain .before .before .before in
-    λ ps n. rw (page .first .given .1, eq-eqb _ _ (plain .if1 .left), sym (sampled .map-dtype .ensures) ∙ ap sampleOf (c .before .r .given .1))
+    λ ps n. rw (page .first .given .1, eq-eqb _ _ (plain .if1 .left), told sampleOf (sampled .map-dtype .ensures) (c .before .r .given .1))
 
 enum-known-entry : tie.Need-enum-known-entry
 enum-known-entry c = search needs
@@ -57,7 +57,7 @@ returns-4 c =
     let sampled = kind .before .before in
     let plain = sampled .before in
     let page = plain .before .before .before in
-    λ ps n. rw (page .first .given .1, eq-eqb _ _ (plain .if1 .left), sym (sampled .map-dtype .ensures) ∙ ap sampleOf (kind .k .given .1), c .enum-told2 .given .1)
+    λ ps n. rw (page .first .given .1, eq-eqb _ _ (plain .if1 .left), told sampleOf (sampled .map-dtype .ensures) (kind .k .given .1), c .enum-told2 .given .1)
 
 cast-t21 : tie.Need-cast-t21
 cast-t21 c = search needs
@@ -85,7 +85,7 @@ returns-5 c =
     let plain = sampled .before in
     let page = plain .before .before .before in
     let a = page .before .before .before .args in
-    λ ps n. rw (page .first .given .1, eq-eqb _ _ (plain .if1 .left), sym (sampled .map-dtype .ensures) ∙ ap sampleOf (kind .k .given .1), cz .entry .given .1, sym (parsed .parse .ensures) ∙ ap czOf (block .info .given .1), ← n) (c .describe .ensures (orderOf (a .e)) (now (a .buf)))
+    λ ps n. rw (page .first .given .1, eq-eqb _ _ (plain .if1 .left), told sampleOf (sampled .map-dtype .ensures) (kind .k .given .1), cz .entry .given .1, told czOf (parsed .parse .ensures) (block .info .given .1), ← n) (c .describe .ensures (orderOf (a .e)) (now (a .buf)))
 
 returns-6 : tie.Need-returns-6
 unfolding Open.describeWalk bind
@@ -96,7 +96,7 @@ returns-6 c =
     let sampled = kind .before .before in
     let plain = sampled .before in
     let page = plain .before .before .before in
-    λ ps n. rw (page .first .given .1, eq-eqb _ _ (plain .if1 .left), sym (sampled .map-dtype .ensures) ∙ ap sampleOf (kind .k .given .1), cz .entry .given .1, sym (parsed .parse .ensures) ∙ ap czOf (c .before .r2 .given .1))
+    λ ps n. rw (page .first .given .1, eq-eqb _ _ (plain .if1 .left), told sampleOf (sampled .map-dtype .ensures) (kind .k .given .1), cz .entry .given .1, told czOf (parsed .parse .ensures) (c .before .r2 .given .1))
 
 pub describe-walk-spec : {M : Type 1} → statement M
 describe-walk-spec =

@@ -2,8 +2,9 @@
 use borrow.Author.Needs.{needs}
 use Rattle.lsm_strips.proofs.checks.checked_place.Statement.{statement}
 use Rattle.lsm_strips.proofs.checks.checked_place.Tie as tie
-use mathlib.Core.Path.{sym, ap, _∙_}
+use mathlib.Core.Path.{_∙_}
 use Rattle.lsm_format.specs.Code.{checkOf}
+use Rattle.lsm_format.proofs.Told.{told}
 use Rattle.lsm_strips.proofs.Judging.{place-there, place-missing}
 
 checked-scene-requires : tie.Need-checked-scene-requires
@@ -21,10 +22,10 @@ enum-known-missing c = search needs
 returns : tie.Need-returns
 returns c =
     let k = c .before in
-    c .checked-coordinates .ensures ∙ place-there _ _ _ (sym (k .before .before .checked-scene .ensures) ∙ ap checkOf (k .enum-told .given .1))
+    c .checked-coordinates .ensures ∙ place-there _ _ _ (told checkOf (k .before .before .checked-scene .ensures) (k .enum-told .given .1))
 
 returns-2 : tie.Need-returns-2
-returns-2 c = place-missing _ _ _ (sym (c .before .before .before .checked-scene .ensures) ∙ ap checkOf (c .before .missing .given .1))
+returns-2 c = place-missing _ _ _ (told checkOf (c .before .before .before .checked-scene .ensures) (c .before .missing .given .1))
 
 pub checked-place-spec : {M : Type 1} → statement M
 checked-place-spec =

@@ -3,13 +3,14 @@
 use borrow.Author.Needs.{needs}
 use Rattle.lsm_strips.proofs.checks.region_strips.Statement.{statement}
 use Rattle.lsm_strips.proofs.checks.region_strips.Tie as tie
-use mathlib.Core.Path.{_≡_, sym, ap, _∙_}
+use mathlib.Core.Path.{_≡_, sym, _∙_}
 use borrow.Author.Tests.{not-true}
 use Rattle.lsm_format.specs.Answer.{accepted}
 use Rattle.lsm_format.specs.Code.{bytesOf}
 use Rattle.lsm_format.specs.Sizes.{pictureSize}
 use Rattle.lsm_format.specs.Open.{Description}
 use Rattle.lsm_format.proofs.Region.{region-plane}
+use Rattle.lsm_format.proofs.Told.{told}
 use Rattle.lsm_description.specs.Code.{descriptionOf}
 use Rattle.lsm_strips.proofs.Judging.{past-not, region-whole, region-broken, region-oversized}
 
@@ -23,7 +24,7 @@ described c = descriptionOf (start c .args .d)
 -- the picture's size
 sized : (c : tie.After-known-told)
     → pictureSize (described c .dims .x) (described c .dims .y) (described c .kind) ≡ accepted (c .before .size .given .0 .0)
-sized c = sym (c .before .before .before .checked-plane-bytes .ensures) ∙ ap bytesOf (c .before .size .given .1)
+sized c = told bytesOf (c .before .before .before .checked-plane-bytes .ensures) (c .before .size .given .1)
 
 checked-plane-bytes-requires : tie.Need-checked-plane-bytes-requires
 checked-plane-bytes-requires c κs = search needs
@@ -83,7 +84,7 @@ returns-4 c = c .window-strips2 .ensures ∙ region-whole _ _ _ _ _ (sym (c .bef
 returns-5 : tie.Need-returns-5
 returns-5 c =
     let g = c .before .before .before .before .before in
-    region-oversized _ _ _ _ _ _ (sym (g .checked-plane-bytes .ensures) ∙ ap bytesOf (c .before .before .before .r .given .1)) (sym (c .before .whole-rows2 .ensures) ∙ c .if3 .left)
+    region-oversized _ _ _ _ _ _ (told bytesOf (g .checked-plane-bytes .ensures) (c .before .before .before .r .given .1)) (sym (c .before .whole-rows2 .ensures) ∙ c .if3 .left)
 
 pub region-strips-spec : {M : Type 1} → statement M
 region-strips-spec =

@@ -14,6 +14,7 @@ use Rattle.lsm_format.specs.Sizes.{sampleSize}
 use Rattle.lsm_format.specs.Picture.{channelStrips}
 use Rattle.lsm_format.proofs.Picture.{channel-room}
 use Rattle.lsm_format.proofs.Region.{whole-rows}
+use Rattle.lsm_format.proofs.Told.{told}
 use Rattle.lsm_description.specs.Code.{descriptionOf}
 use Rattle.lsm_strips.specs.declared.Found.the-variants.{Strips}
 use Rattle.lsm_strips.specs.Parts.{foundOf}
@@ -25,7 +26,7 @@ start c = c .before .before .before .before .before .before
 
 found : (c : tie.After-known-told)
     → channelStrips (descriptionOf (start c .args .d)) (length (start c .args .table .now)) (coordinateOf (start c .args .co)) ≡ foundOf (Strips (c .before .s .given .0 .0))
-found c = sym (c .before .before .before .channel-strips .ensures) ∙ ap foundOf (c .before .s .given .1)
+found c = told foundOf (c .before .before .before .channel-strips .ensures) (c .before .s .given .1)
 
 -- the row's bytes, and those up to the rectangle's right edge
 row-fits : (s : tie.Start) → s .args .d .dims .x * sampleSize (kindOf (s .args .d .dtype)) < 2 ^ 64
@@ -100,7 +101,7 @@ returns-3 c =
     rows-short _ _ _ _ _ _ (found (b .before)) (sym (i .strips-inside .ensures) ∙ not-false _ (c .before .before .before .if1 .left)) (sym (rw (b .size-bytes .ensures) at (c .before .strips-reach .ensures)) ∙ c .if2 .left)
 
 returns-4 : tie.Need-returns-4
-returns-4 c = rows-nowhere _ _ _ _ _ _ (sym (c .before .before .before .channel-strips .ensures) ∙ ap foundOf (c .before .r .given .1))
+returns-4 c = rows-nowhere _ _ _ _ _ _ (told foundOf (c .before .before .before .channel-strips .ensures) (c .before .r .given .1))
 
 pub row-strips-spec : {M : Type 1} → statement M
 row-strips-spec =

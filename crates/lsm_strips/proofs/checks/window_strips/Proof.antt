@@ -2,8 +2,9 @@
 use borrow.Author.Needs.{needs}
 use Rattle.lsm_strips.proofs.checks.window_strips.Statement.{statement}
 use Rattle.lsm_strips.proofs.checks.window_strips.Tie as tie
-use mathlib.Core.Path.{sym, ap, _∙_}
+use mathlib.Core.Path.{_∙_}
 use Rattle.lsm_format.specs.Code.{bytesOf}
+use Rattle.lsm_format.proofs.Told.{told}
 use Rattle.lsm_strips.proofs.Judging.{window-over, window-by-rows}
 
 checked-plane-bytes-requires : tie.Need-checked-plane-bytes-requires
@@ -20,10 +21,10 @@ enum-known-r c = search needs
 
 returns : tie.Need-returns
 returns c =
-    c .row-strips .ensures ∙ window-by-rows _ _ _ _ _ _ (sym (c .before .before .before .checked-plane-bytes .ensures) ∙ ap bytesOf (c .before .enum-told .given .1))
+    c .row-strips .ensures ∙ window-by-rows _ _ _ _ _ _ (told bytesOf (c .before .before .before .checked-plane-bytes .ensures) (c .before .enum-told .given .1))
 
 returns-2 : tie.Need-returns-2
-returns-2 c = window-over _ _ _ _ _ _ (sym (c .before .before .before .checked-plane-bytes .ensures) ∙ ap bytesOf (c .before .r .given .1))
+returns-2 c = window-over _ _ _ _ _ _ (told bytesOf (c .before .before .before .checked-plane-bytes .ensures) (c .before .r .given .1))
 
 pub window-strips-spec : {M : Type 1} → statement M
 window-strips-spec =

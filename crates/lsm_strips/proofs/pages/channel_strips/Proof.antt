@@ -14,6 +14,7 @@ use Rattle.lsm_format.specs.Picture.{stripsPerPage}
 use Rattle.lsm_format.proofs.Words.{told-value, told-overflow}
 use Rattle.lsm_format.proofs.Picture.{channel-nowhere, channel-missing, channel-at}
 use Rattle.lsm_format.specs.Scenes.{pageOf}
+use Rattle.lsm_format.proofs.Told.{told}
 use Rattle.lsm_positions.specs.Code.{indexOf, layoutOf}
 use Rattle.lsm_description.specs.Code.{descriptionOf}
 use Rattle.lsm_strips.proofs.Judging.{page-is, strips-are, page-room, channel-part, page-over}
@@ -31,7 +32,7 @@ strips-told c = told-value _ (c .before .before .before .before .checked-mul .en
 
 page-told : (c : tie.After-has-page)
     → pageOf (layoutOf (start c .args .d .layout)) (coordinateOf (start c .args .co)) ≡ some (page c .page .given .0 .0)
-page-told c = sym (page c .before .before .page-index .ensures _ _) ∙ ap indexOf (page c .page .given .1)
+page-told c = told indexOf (page c .before .before .page-index .ensures _ _) (page c .page .given .1)
 
 page-index-requires : tie.Need-page-index-requires
 page-index-requires c κs = search needs
@@ -43,7 +44,7 @@ enum-told : tie.Need-enum-told
 enum-told c = search needs
 
 returns : tie.Need-returns
-returns c = channel-nowhere _ _ _ (sym (c .before .before .page-index .ensures _ _) ∙ ap indexOf (c .enum-told .given .1))
+returns c = channel-nowhere _ _ _ (told indexOf (c .before .before .page-index .ensures _ _) (c .enum-told .given .1))
 
 checked-mul-requires : tie.Need-checked-mul-requires
 checked-mul-requires c κs = search needs
@@ -59,7 +60,7 @@ returns-2 c =
     let m = c .before .before in
     let p = m .before .before in
     let a = p .before .before .before .before .before .args in
-    channel-missing _ _ _ _ (sym (p .before .before .page-index .ensures _ _) ∙ ap indexOf (p .page .given .1))
+    channel-missing _ _ _ _ (told indexOf (p .before .before .page-index .ensures _ _) (p .page .given .1))
     (page-over (descriptionOf (a .d)) (a .words) _ (omega arith) (told-overflow _ (m .checked-mul .ensures) (c .enum-told2 .given .1)))
 
 has-page-requires : tie.Need-has-page-requires

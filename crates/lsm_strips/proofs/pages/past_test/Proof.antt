@@ -1,9 +1,9 @@
 -- `lsm_strips::pages::past_test` meets its contract: no page by its number, pages that overflow, or the two compared. Assumes nothing.
 use borrow.Author.Needs.{needs}
+use Rattle.lsm_format.proofs.Told.{told}
 use Rattle.lsm_strips.proofs.pages.past_test.Statement.{statement}
 use Rattle.lsm_strips.proofs.pages.past_test.Tie as tie
 use native.Mathlib.Omega.{arith}
-use mathlib.Core.Path.{sym, ap, _∙_}
 use Rattle.lsm_positions.specs.Code.{indexOf, pagesOf}
 use Rattle.lsm_strips.proofs.Judging.{past-nowhere, past-by, past-over}
 
@@ -17,7 +17,7 @@ enum-told : tie.Need-enum-told
 enum-told c = search needs
 
 returns : tie.Need-returns
-returns c = past-nowhere _ _ (sym (c .before .before .page-index .ensures _ _) ∙ ap indexOf (c .enum-told .given .1))
+returns c = past-nowhere _ _ (told indexOf (c .before .before .page-index .ensures _ _) (c .enum-told .given .1))
 
 expected-pages-requires : tie.Need-expected-pages-requires
 expected-pages-requires c κs = search needs
@@ -32,13 +32,13 @@ returns-2 : tie.Need-returns-2
 returns-2 c =
     let e = c .before .before .before in
     let i = e .before .before .before .before in
-    past-by _ _ _ (sym (i .page-index .ensures _ _) ∙ ap indexOf (e .before .before .page .given .1)) _ (sym (e .expected-pages .ensures) ∙ ap pagesOf (c .before .pages .given .1))
+    past-by _ _ _ (told indexOf (i .page-index .ensures _ _) (e .before .before .page .given .1)) _ (told pagesOf (e .expected-pages .ensures) (c .before .pages .given .1))
 
 returns-3 : tie.Need-returns-3
 returns-3 c =
     let e = c .before .before in
     let i = e .before .before .before .before in
-    past-over _ _ _ (sym (i .page-index .ensures _ _) ∙ ap indexOf (e .before .before .page .given .1)) _ (sym (e .expected-pages .ensures) ∙ ap pagesOf (c .enum-told2 .given .1)) (omega arith)
+    past-over _ _ _ (told indexOf (i .page-index .ensures _ _) (e .before .before .page .given .1)) _ (told pagesOf (e .expected-pages .ensures) (c .enum-told2 .given .1)) (omega arith)
 
 pub past-test-spec : {M : Type 1} → statement M
 past-test-spec =

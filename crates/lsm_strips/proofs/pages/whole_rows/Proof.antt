@@ -4,11 +4,12 @@ use borrow.Author.Needs.{needs}
 use Rattle.lsm_strips.proofs.pages.whole_rows.Statement.{statement}
 use Rattle.lsm_strips.proofs.pages.whole_rows.Tie as tie
 use native.Mathlib.Omega.{arith}
-use mathlib.Core.Path.{_≡_, sym, ap, _∙_}
+use mathlib.Core.Path.{_≡_, _∙_}
 use mathlib.Core.Option.{some}
 use Rattle.lsm_format.specs.Words.{word}
 use Rattle.lsm_format.specs.Picture.{rowBytes}
 use Rattle.lsm_format.proofs.Words.{told-value, told-overflow, word-some}
+use Rattle.lsm_format.proofs.Told.{told}
 use Rattle.lsm_positions.specs.Code.{pagesOf}
 use Rattle.lsm_description.specs.Code.{descriptionOf}
 use Rattle.lsm_strips.proofs.Judging.{whole-wide, whole-empty, whole-many, whole-by}
@@ -59,12 +60,12 @@ enum-told-2 c = search needs
 returns-3 : tie.Need-returns-3
 returns-3 c =
     let m = c .before .before .before .before in
-    c .whole-pages .ensures ∙ whole-by _ _ _ (row-told (m .before .before)) (m .before .if1 .left) _ (sym (m .expected-pages .ensures) ∙ ap pagesOf (c .before .before .pages .given .1))
+    c .whole-pages .ensures ∙ whole-by _ _ _ (row-told (m .before .before)) (m .before .if1 .left) _ (told pagesOf (m .expected-pages .ensures) (c .before .before .pages .given .1))
 
 returns-4 : tie.Need-returns-4
 returns-4 c =
     let m = c .before .before in
-    whole-many _ _ _ (row-told (m .before .before)) (m .before .if1 .left) _ (sym (m .expected-pages .ensures) ∙ ap pagesOf (c .enum-told2 .given .1))
+    whole-many _ _ _ (row-told (m .before .before)) (m .before .if1 .left) _ (told pagesOf (m .expected-pages .ensures) (c .enum-told2 .given .1))
 
 pub whole-rows-spec : {M : Type 1} → statement M
 whole-rows-spec =
