@@ -1,19 +1,20 @@
 -- Laws of the directory's definitions, a case each. Assumes nothing.
 use Prim.Native.Nat.{ℕ, zero, suc, _+_, _*_, _≤_, _<_}
-use native.Mathlib.Nat.{mul-suc, mul-zero}
+use native.Mathlib.Nat.{mul-suc, mul-zero, zero-mul}
 use native.Mathlib.Omega.{arith}
 use mathlib.Core.Bool.{Bool, true, false, not, _&&_, _||_, cond}
 use mathlib.Core.Logic.{_⊎_, inl, inr}
 use mathlib.Core.Option.{Option, none, some}
 use mathlib.Core.Path.{_≡_, refl, sym, ap, fun-ext, _∙_}
 use mathlib.Core.List.{List, [], _∷_}
-use lib.Dec.{leb, T, leb→le, lit≤}
+use lib.Dec.{leb, eqb, T, leb→le, lit≤}
 use lib.ListN.{length}
-use borrow.Author.Tests.{eq-eqb, ne-eqb, leb-true, leb-false, le-leb, lt-leb, lt-ltb, le-ltb}
+use borrow.Author.Tests.{eq-eqb, ne-eqb, eqb-true, leb-true, leb-false, le-leb, lt-leb, lt-ltb, le-ltb}
 use Rattle.lsm_format.specs.Answer.{Result, accepted, refused, bind, need, parse, decode}
 use Rattle.lsm_format.specs.Numbers.{Order, numberAt, u16At, u32At}
 use Rattle.lsm_format.specs.Directory.{among, typeSize, integerSize, valueAt, valuesAt, valuePlace, entryValues, scalarValues, scalar, arrayValues, array, Directory, Field, isShort, put, putField, Tag, czLsmInfo, putCz, tagOf, entryBy, entry}
 use Rattle.lsm_format.proofs.Numbers.{number-past, number-there}
+use Rattle.lsm_format.proofs.Accepting.{not-both}
 use Rattle.lsm_format.proofs.Apart.{no-case}
 
 -- ---- types
@@ -158,38 +159,53 @@ unfolding typeSize
 type-size-small t =
     sizes-small (among t (1 ∷ 2 ∷ 6 ∷ 7 ∷ [])) (among t (3 ∷ 8 ∷ [])) (among t (4 ∷ 9 ∷ 11 ∷ [])) (among t (5 ∷ 10 ∷ 12 ∷ []))
 
--- ---- scalars and strip arrays, case by case in the order of their checks
+-- ---- scalars, case by case in the order of their checks
+
+module _ (o : Order) (f : List ℕ) (type count place : ℕ) where
+  -- the place of an entry's values is asked for only where its type has a size: otherwise they stand in the entry
+  no-size-placed : typeSize type ≡ 0 → accepted place ≡ valuePlace o f (typeSize type) count place
+  no-size-placed z = place-in-entry o f (typeSize type) count place (rw z (omega (arith, zero-mul count)))
+
+  pub scalar-nowhere : (row : List ℕ) → valuePlace o f (typeSize type) count place ≡ refused row → refused row ≡ scalar o f type count place
+  unfolding scalar scalarValues entryValues bind
+  scalar-nowhere row e = by (eqb (typeSize type) 0) refl
+    where
+      by : (b : Bool) → eqb (typeSize type) 0 ≡ b → refused row ≡ scalar o f type count place
+      by true t = absurd (not-both row place (sym e ∙ sym (no-size-placed (eqb-true _ _ t))))
+      by false t = rw (t, e)
+
+  -- a type that is no number: by its size, its count, or the type itself
+  pub scalar-no-number : (p : ℕ) → valuePlace o f (typeSize type) count place ≡ accepted p → integerSize type ≡ none →
+      refused decode ≡ scalar o f type count place
+  unfolding scalar scalarValues entryValues valueAt bind
+  scalar-no-number p e i = by (eqb (typeSize type) 0) (eqb count 0) refl refl
+    where
+      by : (b c : Bool) → eqb (typeSize type) 0 ≡ b → eqb count 0 ≡ c → refused decode ≡ scalar o f type count place
+      by true c t n = rw t
+      by false true t n = rw (t, e, n)
+      by false false t n = rw (t, e, n, i)
+
+  -- one that is read as a number of `size` bytes
+  module _ (size : ℕ) (i : integerSize type ≡ some size) (z : size ≡ 0 → ⊥) where
+    pub scalar-no-count : count ≡ 0 → refused decode ≡ scalar o f type count place
+    unfolding scalar scalarValues entryValues bind
+    scalar-no-count n =
+        rw (integer-size type size i, ne-eqb size 0 z, ← place-in-entry o f size count place (rw n (omega (arith, mul-zero size))), eq-eqb count 0 n)
+
+    pub scalar-is : (count ≡ 0 → ⊥) → (p : ℕ) → valuePlace o f size count place ≡ accepted p → numberAt size o f p ≡ scalar o f type count place
+    unfolding scalar scalarValues entryValues valueAt bind
+    scalar-is n p e = rw (integer-size type size i, ne-eqb size 0 z, e, ne-eqb count 0 n, i)
+
+-- ---- strip arrays, case by case in the order of their checks
 
 module _ (o : Order) (f : List ℕ) (type count place size : ℕ) (is : size ≡ typeSize type) where
-  pub scalar-no-type : size ≡ 0 → refused decode ≡ scalar o f type count place
-  unfolding scalar scalarValues entryValues bind
-  scalar-no-type z = rw (← is, eq-eqb size 0 z)
-
   pub array-no-type : size ≡ 0 → refused decode ≡ array o f type count place
   unfolding array arrayValues entryValues bind
   array-no-type z = rw (← is, eq-eqb size 0 z)
 
-  module _ (z : size ≡ 0 → ⊥) where
-    pub scalar-no-count : count ≡ 0 → refused decode ≡ scalar o f type count place
-    unfolding scalar scalarValues entryValues bind
-    scalar-no-count n = rw (← is, ne-eqb size 0 z, ← place-in-entry o f size count place (rw n (omega (arith, mul-zero size))), eq-eqb count 0 n)
-
-    pub scalar-nowhere : (row : List ℕ) → valuePlace o f size count place ≡ refused row → refused row ≡ scalar o f type count place
-    unfolding scalar scalarValues entryValues bind
-    scalar-nowhere row e = rw (← is, ne-eqb size 0 z, e)
-
-    pub array-nowhere : (row : List ℕ) → valuePlace o f size count place ≡ refused row → refused row ≡ array o f type count place
-    unfolding array arrayValues entryValues bind
-    array-nowhere row e = rw (← is, ne-eqb size 0 z, e)
-
-    module _ (n : count ≡ 0 → ⊥) (p : ℕ) (e : valuePlace o f size count place ≡ accepted p) where
-      pub scalar-no-number : integerSize type ≡ none → refused decode ≡ scalar o f type count place
-      unfolding scalar scalarValues entryValues valueAt bind
-      scalar-no-number i = rw (← is, ne-eqb size 0 z, e, ne-eqb count 0 n, i)
-
-      pub scalar-is : (width : ℕ) → integerSize type ≡ some width → numberAt width o f p ≡ scalar o f type count place
-      unfolding scalar scalarValues entryValues valueAt bind
-      scalar-is width i = rw (← is, ne-eqb size 0 z, e, ne-eqb count 0 n, i)
+  pub array-nowhere : (size ≡ 0 → ⊥) → (row : List ℕ) → valuePlace o f size count place ≡ refused row → refused row ≡ array o f type count place
+  unfolding array arrayValues entryValues bind
+  array-nowhere z row e = rw (← is, ne-eqb size 0 z, e)
 
 -- ---- the CZ entry
 

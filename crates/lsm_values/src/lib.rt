@@ -8,7 +8,8 @@ use lsm_bytes::read_u32;
 use lsm_format::error::Refusal;
 use lsm_format::types::Endian;
 ghost use mathlib.Core.Path.{_≡_};
-ghost use Prim.Native.Nat.{_≤_, _<_};
+ghost use Prim.Native.Nat.{ℕ, _≤_, _<_};
+ghost use mathlib.Core.Option.{none, some};
 ghost use lib.ListN.{getD};
 ghost use Rattle.lsm_format.specs.Code.{orderOf};
 ghost use Rattle.lsm_format.specs.Numbers.{numberAt};
@@ -96,26 +97,39 @@ pub enum Scalar {
     Refused(Refusal),
 }
 
-// The first value of an entry.
-pub fn read_scalar(buf: &[u8], ty: u16, count: u32, off: usize, e: Endian) -> Scalar
-    ensures { λ r. ⌜ scalarOf r ≡ scalar (orderOf e) (now (buf .entry)) ty count off ⌝ }
+// The first value of an entry whose type is read as a number of this width.
+fn first_number(buf: &[u8], width: Width, count: u32, off: usize, e: Endian) -> Scalar
+    ensures { λ r. ⌜ ((type : ℕ) → integerSize type ≡ some (bytesOf width) → scalarOf r ≡ scalar (orderOf e) (now (buf .entry)) type count off) ⌝ }
 {
-    let size = tiff_type_size(ty);
-    if size == 0 {
-        return Scalar::Refused(Refusal::Decode);
-    }
     if count == 0 {
         return Scalar::Refused(Refusal::Decode);
     }
-    match value_place(buf, size, count, off, e) {
-        Place::At(place) => match integer_width(ty) {
-            Integer::Of(width) => match read_number(buf, place, width, e) {
-                U32::Value(n) => Scalar::Value(n),
-                U32::Parse => Scalar::Refused(Refusal::Parse),
-            },
-            Integer::Nothing => Scalar::Refused(Refusal::Decode),
+    match value_place(buf, width_bytes(width), count, off, e) {
+        Place::At(place) => match read_number(buf, place, width, e) {
+            U32::Value(n) => Scalar::Value(n),
+            U32::Parse => Scalar::Refused(Refusal::Parse),
         },
         Place::Parse => Scalar::Refused(Refusal::Parse),
+    }
+}
+
+// An entry whose type is no number is refused, whatever its size and count; but the place of its values is read before that.
+fn no_number(buf: &[u8], ty: u16, count: u32, off: usize, e: Endian) -> Scalar
+    ensures { λ r. ⌜ (integerSize ty ≡ none → scalarOf r ≡ scalar (orderOf e) (now (buf .entry)) ty count off) ⌝ }
+{
+    match value_place(buf, tiff_type_size(ty), count, off, e) {
+        Place::At(_) => Scalar::Refused(Refusal::Decode),
+        Place::Parse => Scalar::Refused(Refusal::Parse),
+    }
+}
+
+// The first value of an entry. How its type is read as a number says its size too, and is asked once.
+pub fn read_scalar(buf: &[u8], ty: u16, count: u32, off: usize, e: Endian) -> Scalar
+    ensures { λ r. ⌜ scalarOf r ≡ scalar (orderOf e) (now (buf .entry)) ty count off ⌝ }
+{
+    match integer_width(ty) {
+        Integer::Of(width) => first_number(buf, width, count, off, e),
+        Integer::Nothing => no_number(buf, ty, count, off, e),
     }
 }
 
