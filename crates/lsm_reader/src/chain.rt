@@ -83,7 +83,7 @@ fn join(w: Walk, d: Directory) -> Walk
             cz, // the entry of a reduced page counts
         };
     }
-    let First::Page(page) = first else {
+    let First::Page(_) = first else {
         return Walk {
             visited: w.visited + 1,
             pages: w.pages + 1,
@@ -94,7 +94,7 @@ fn join(w: Walk, d: Directory) -> Walk
     Walk {
         visited: w.visited + 1,
         pages: w.pages + 1,
-        first: First::Page(page),
+        first, // as it was: a page that is taken out and put back is copied
         cz,
     }
 }

@@ -17,8 +17,8 @@ first-entry-requires c κs = search needs
 is-reduced-requires : tie.Need-is-reduced-requires
 is-reduced-requires c κs = search needs
 
-add-t9 : tie.Need-add-t9
-add-t9 c = search needs
+add-t8 : tie.Need-add-t8
+add-t8 c = search needs
 
 returns : tie.Need-returns
 returns c =
@@ -28,17 +28,17 @@ returns c =
     let is = sym (asked .is-reduced .ensures) ∙ c .before .if1 .taken in
     (λ o f ps. rw (is, stays (firstMeant o f (w .first)), entry .first-entry .ensures), ((omega arith, omega arith), λ o f ps e. rw (is, append-nil) e))
 
-enum-known-first : tie.Need-enum-known-first
-enum-known-first c = search needs
-
 enum-told : tie.Need-enum-told
 enum-told c = search needs
 
+enum-told-2 : tie.Need-enum-told-2
+enum-told-2 c = search needs
+
+add-t9 : tie.Need-add-t9
+add-t9 c = search needs
+
 add-t10 : tie.Need-add-t10
 add-t10 c = search needs
-
-add-t11 : tie.Need-add-t11
-add-t11 c = search needs
 
 returns-2 : tie.Need-returns-2
 returns-2 c =
@@ -47,22 +47,22 @@ returns-2 c =
     let entry = asked .before in
     let a = entry .before .args in
     let is = sym (asked .is-reduced .ensures) ∙ full .if1 .left in
-    (λ o f ps. rw (is, c .before .before .enum-told .given .1, entry .first-entry .ensures), ((omega arith, omega arith), λ o f ps e. rw is (one-more (a .w .pages) ps (arraysOf (directoryOf o f (a .d))) e)))
+    (λ o f ps. rw (is, c .before .before .enum-told2 .given .1, entry .first-entry .ensures), ((omega arith, omega arith), λ o f ps e. rw is (one-more (a .w .pages) ps (arraysOf (directoryOf o f (a .d))) e)))
+
+add-t12 : tie.Need-add-t12
+add-t12 c = search needs
 
 add-t13 : tie.Need-add-t13
 add-t13 c = search needs
 
-add-t14 : tie.Need-add-t14
-add-t14 c = search needs
-
 returns-3 : tie.Need-returns-3
 returns-3 c =
-    let full = c .before .before .before .before .before in
+    let full = c .before .before .before .before in
     let asked = full .before in
     let entry = asked .before in
     let a = entry .before .args in
     let is = sym (asked .is-reduced .ensures) ∙ full .if1 .left in
-    (λ o f ps. rw (is, c .before .before .before .first .given .1, entry .first-entry .ensures), ((omega arith, omega arith), λ o f ps e. rw is (one-more (a .w .pages) ps (arraysOf (directoryOf o f (a .d))) e)))
+    (λ o f ps. rw (is, c .before .before .enum-told .given .1, entry .first-entry .ensures), ((omega arith, omega arith), λ o f ps e. rw is (one-more (a .w .pages) ps (arraysOf (directoryOf o f (a .d))) e)))
 
 pub join-spec : {M : Type 1} → statement M
 join-spec =
@@ -70,13 +70,13 @@ join-spec =
     (tie.spec
     first-entry-requires
     is-reduced-requires
-    add-t9
+    add-t8
     returns
-    enum-known-first
     enum-told
+    enum-told-2
+    add-t9
     add-t10
-    add-t11
     returns-2
+    add-t12
     add-t13
-    add-t14
     returns-3)
