@@ -6,7 +6,7 @@ use mathlib.Core.List.{List}
 use lib.Dec.{T, leb}
 use lib.ListN.{drop}
 use lib.Ieee.{Float, nan, inf, fin, binary32, fits, isNan, lt, le}
-use Rattle.lsm_format.specs.Answer.{Result, accepted, refused, bind}
+use Rattle.lsm_format.specs.Answer.{accepted}
 use Rattle.lsm_format.specs.Numbers.{Order}
 use Rattle.lsm_format.specs.Sizes.{Kind}
 use Rattle.lsm_format.specs.Calibration.{zStep, nought, smallestStep, largestStep, micrometres, aboveNought, calibration}
@@ -15,6 +15,7 @@ use Rattle.lsm_format.specs.Calibration as Rule
 use Rattle.lsm_format.specs.CzInfo.{CzInfo, voxels, from, czInfo}
 use Rattle.lsm_format.specs.Directory.{Directory}
 use Rattle.lsm_format.specs.Open.{Description, Walk, Opened, describe, describeWalk, read, openFile}
+use Rattle.lsm_format.proofs.Accepting.{Accepting, accepting-bind, accepting-then}
 use Rattle.narrowing.proofs.Product.{narrow-fits}
 use Rattle.calibration.proofs.Steps.{above-number}
 use Rattle.lsm_reader.specs.Opening.{toldOf}
@@ -23,22 +24,6 @@ use Rattle.lsm_words.proofs.Back.{Number, NumberStep, NumberSize, read-
 use Rattle.lsm_words.specs.Answers.{openWords}
 
 -- ---- what opening gives
-
--- a rule all of whose accepted answers have a property
-unfoldable IfAccepted : {A : Type 0} → (A → Type 0) → Result A → Type 0
-IfAccepted P (accepted a) = P a
-IfAccepted P (refused row) = Unit {0}
-
-then-holds : {A B : Type 0} (P : B → Type 0) (m : Result A) (k : A → Result B) → ((a : A) → IfAccepted P (k a)) → IfAccepted P (bind m k)
-unfolding IfAccepted bind
-then-holds P (accepted a) k h = h a
-then-holds P (refused row) k h = tt
-
-then-holds-of : {A B : Type 0} (Q : A → Type 0) (P : B → Type 0) (m : Result A) (k : A → Result B) → IfAccepted Q m →
-    ((a : A) → Q a → IfAccepted P (k a)) → IfAccepted P (bind m k)
-unfolding IfAccepted bind
-then-holds-of Q P (accepted a) k q h = h a q
-then-holds-of Q P (refused row) k q h = tt
 
 micrometres-fits : (bits : ℕ) → T (fits binary32 (micrometres bits))
 unfolding micrometres
@@ -86,51 +71,51 @@ abbrev NumberOpened : Opened → Type 0
 NumberOpened r = NumberDescription (r .description)
 
 module _ (o : Order) (f : List ℕ) where
-  voxels-number : (block : ℕ) → IfAccepted NumberSize (voxels o f block)
-  unfolding voxels IfAccepted
+  voxels-number : (block : ℕ) → Accepting NumberSize (voxels o f block)
+  unfolding voxels Accepting
   voxels-number block =
-      then-holds NumberSize _ _ (λ x. then-holds NumberSize _ _ (λ y. then-holds NumberSize _ _ (λ z. calibration-number x y z)))
+      accepting-then NumberSize _ _ (λ x. accepting-then NumberSize _ _ (λ y. accepting-then NumberSize _ _ (λ z. calibration-number x y z)))
 
-  from-number : (block : ℕ) (t : Bool) → IfAccepted NumberSize (from t (voxels o f block) uncalibrated)
-  unfolding IfAccepted
+  from-number : (block : ℕ) (t : Bool) → Accepting NumberSize (from t (voxels o f block) uncalibrated)
+  unfolding Accepting
   from-number block true = voxels-number block
   from-number block false = tt
 
-  info-number : (block declared : ℕ) → IfAccepted NumberInfo (czInfo o f block declared)
-  unfolding czInfo IfAccepted
+  info-number : (block declared : ℕ) → Accepting NumberInfo (czInfo o f block declared)
+  unfolding czInfo Accepting
   info-number block declared =
-      then-holds NumberInfo _ _ (λ n.
-      then-holds NumberInfo _ _ (λ d.
-      then-holds NumberInfo _ _ (λ _.
-      then-holds-of NumberSize NumberInfo _ _ (from-number block (leb 64 n)) (λ s h.
-      then-holds NumberInfo _ _ (λ colors. then-holds NumberInfo _ _ (λ pm. h))))))
+      accepting-then NumberInfo _ _ (λ n.
+      accepting-then NumberInfo _ _ (λ d.
+      accepting-then NumberInfo _ _ (λ _.
+      accepting-bind NumberSize NumberInfo _ _ (from-number block (leb 64 n)) (λ s h.
+      accepting-then NumberInfo _ _ (λ colors. accepting-then NumberInfo _ _ (λ pm. h))))))
 
-  describe-number : (k : Kind) (p : Directory) (pages : ℕ) (i : CzInfo) → NumberInfo i → IfAccepted NumberDescription (describe o k p pages i)
-  unfolding describe IfAccepted
-  describe-number k p pages i h = then-holds NumberDescription _ _ (λ _. then-holds NumberDescription _ _ (λ l. h))
+  describe-number : (k : Kind) (p : Directory) (pages : ℕ) (i : CzInfo) → NumberInfo i → Accepting NumberDescription (describe o k p pages i)
+  unfolding describe Accepting
+  describe-number k p pages i h = accepting-then NumberDescription _ _ (λ _. accepting-then NumberDescription _ _ (λ l. h))
 
-  walk-number : (w : Walk) → IfAccepted NumberDescription (describeWalk o f w)
+  walk-number : (w : Walk) → Accepting NumberDescription (describeWalk o f w)
   unfolding describeWalk
   walk-number w =
-      then-holds NumberDescription _ _ (λ p.
-      then-holds NumberDescription _ _ (λ _.
-      then-holds NumberDescription _ _ (λ k.
-      then-holds NumberDescription _ _ (λ cz.
-      then-holds-of NumberInfo NumberDescription _ _ (info-number (cz .0) (cz .1)) (λ i h. describe-number k p _ i h)))))
+      accepting-then NumberDescription _ _ (λ p.
+      accepting-then NumberDescription _ _ (λ _.
+      accepting-then NumberDescription _ _ (λ k.
+      accepting-then NumberDescription _ _ (λ cz.
+      accepting-bind NumberInfo NumberDescription _ _ (info-number (cz .0) (cz .1)) (λ i h. describe-number k p _ i h)))))
 
-read-number : (f : List ℕ) → IfAccepted NumberOpened (read f)
-unfolding read IfAccepted
+read-number : (f : List ℕ) → Accepting NumberOpened (read f)
+unfolding read Accepting
 read-number f =
-    then-holds NumberOpened _ _ (λ _.
-    then-holds NumberOpened _ _ (λ o.
-    then-holds NumberOpened _ _ (λ w. then-holds-of NumberDescription NumberOpened _ _ (walk-number o f w) (λ d h. h))))
+    accepting-then NumberOpened _ _ (λ _.
+    accepting-then NumberOpened _ _ (λ o.
+    accepting-then NumberOpened _ _ (λ w. accepting-bind NumberDescription NumberOpened _ _ (walk-number o f w) (λ d h. h))))
 
-open-number : (f : List ℕ) (room : ℕ) → IfAccepted NumberOpened (openFile f room)
-unfolding openFile IfAccepted
-open-number f room = then-holds-of NumberOpened NumberOpened _ _ (read-number f) (λ r h. then-holds NumberOpened _ _ (λ _. h))
+open-number : (f : List ℕ) (room : ℕ) → Accepting NumberOpened (openFile f room)
+unfolding openFile Accepting
+open-number f room = accepting-bind NumberOpened NumberOpened _ _ (read-number f) (λ r h. accepting-then NumberOpened _ _ (λ _. h))
 
 -- the words that opening leaves for the caller are the description of the opened file
 pub opened-back : (f : List ℕ) (room : ℕ) (r : Opened) → openFile f room ≡ accepted r →
     describedBy (drop 3 (openWords (toldOf (openFile f room)))) ≡ accepted (r .description)
-unfolding IfAccepted
-opened-back f room r e = rw e (read-back (r .description) (subst (IfAccepted NumberOpened) e (open-number f room)))
+unfolding Accepting
+opened-back f room r e = rw e (read-back (r .description) (subst (Accepting NumberOpened) e (open-number f room)))
