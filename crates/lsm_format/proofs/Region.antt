@@ -15,7 +15,7 @@ use Rattle.lsm_format.specs.Sizes.{Kind, sampleSize, pictureLimit, pictu
 use Rattle.lsm_format.specs.Rectangle.{Rect, Coordinate, rectangle, isEmpty}
 use Rattle.lsm_format.specs.Scenes.{pages, pageOf}
 use Rattle.lsm_format.specs.Open.{Description}
-use Rattle.lsm_format.specs.Picture.{Strips, Samples, countOf, total, inside, stored, picture, toLittle, eachSample, hasPage, stripsOn, channelStrips, coordinateThere, planeStrips, planeFrom, channelPicture, samplesIn, wholePicture, plane, rowBytes, wholeStrips, rowsIn, wholeChannel, wholeChannels, wholePage, wholePages, wholeRows, windowEnd, rowStrips, windowStrips, stripsBy, regionStrips, noStrips, filledStrips, regionFrom, region}
+use Rattle.lsm_format.specs.Picture.{Strips, Samples, countOf, total, inside, stored, picture, toLittle, eachSample, hasPage, stripsOn, channelStrips, coordinateThere, planeStrips, planeFrom, channelPicture, samplesIn, wholePicture, plane, rowBytes, wholeStrips, rowsIn, wholeChannel, wholeRowsOf, wholeChannels, wholePage, wholePages, wholeRows, windowEnd, rowStrips, windowStrips, stripsBy, regionStrips, noStrips, filledStrips, regionFrom, region}
 use Rattle.lsm_format.proofs.Picture.{held, Even, picture-length, window-length, window-at, bind-then, need-true, size-is, size-fits, rectangle-within, channel-page, turn-total, strips-nowhere, plane-accepted}
 use Rattle.lsm_format.proofs.Accepting.{both-hold}
 use Rattle.lsm_format.proofs.Apart.{no-case}
@@ -46,7 +46,7 @@ whole-total row t i (suc n) w =
 -- strips of whole rows that are the picture's height hold the picture's bytes
 pub whole-bytes : (d : Description) (t : List ℕ) (s : Strips) → wholeChannel d t s ≡ true
     → total t (s .first) (s .count) ≡ d .dims .y * rowBytes d
-unfolding wholeChannel
+unfolding wholeChannel wholeRowsOf
 whole-bytes d t s w =
     let b = both-hold (wholeStrips (rowBytes d) t (s .first) (s .count)) (eqb (rowsIn (rowBytes d) t (s .first) (s .count)) (d .dims .y)) w in
     whole-total (rowBytes d) t (s .first) (s .count) (b .0) ∙ ap (λ (k : ℕ). k * rowBytes d) (eqb-true _ _ (b .1))

@@ -96,9 +96,13 @@ window p r = span (r .y) (r .h) (λ row. span (r .x) (r .w) (p row))
 abbrev pub stripsPerPage : Description → ℕ
 stripsPerPage d = d .dims .c * d .stripsPerChannel
 
+-- A table of `words` words has the page whole, where a page has `strips` strips.
+abbrev pub pageIn : ℕ → ℕ → ℕ → Bool
+pageIn strips words page = not (eqb strips 0) && leb (2 * ((page + 1) * strips)) words
+
 -- "no strips per page, or a page not wholly in the table (reckoned exactly)": there is no such page.
 abbrev pub hasPage : Description → ℕ → ℕ → Bool
-hasPage d words page = not (eqb (stripsPerPage d) 0) && leb (2 * ((page + 1) * stripsPerPage d)) words
+hasPage d words page = pageIn (stripsPerPage d) words page
 
 -- Strips that follow one another in the table: the first, and how many they are.
 pub record Strips : Type 0 where
@@ -173,10 +177,12 @@ unfoldable pub rowsIn : ℕ → List ℕ → ℕ → ℕ → ℕ
 rowsIn row table i zero = 0
 rowsIn row table i (suc n) = countOf table i / row + rowsIn row table (i + 1) n
 
--- "and each channel's rows to add up to the height": the sum is exact, so that rows that overflow 64 bits don't.
+-- "each strip's bytes [..], and each channel's rows to add up to the height": the sum is exact, so that rows that overflow 64 bits don't.
+unfoldable pub wholeRowsOf : ℕ → List ℕ → ℕ → ℕ → ℕ → Bool
+wholeRowsOf row table i n height = wholeStrips row table i n && eqb (rowsIn row table i n) height
+
 unfoldable pub wholeChannel : Description → List ℕ → Strips → Bool
-wholeChannel d table s =
-    wholeStrips (rowBytes d) table (s .first) (s .count) && eqb (rowsIn (rowBytes d) table (s .first) (s .count)) (d .dims .y)
+wholeChannel d table s = wholeRowsOf (rowBytes d) table (s .first) (s .count) (d .dims .y)
 
 -- "and all channels": the first n of a page.
 unfoldable pub wholeChannels : Description → List ℕ → ℕ → ℕ → Bool

@@ -14,7 +14,7 @@ use Rattle.lsm_format.specs.Answer.{accepted, need, decode}
 use Rattle.lsm_format.specs.Rectangle.{Rect, Coordinate, noPicture, coordinates, isEmpty}
 use Rattle.lsm_format.specs.Scenes.{pages, pageOf}
 use Rattle.lsm_format.specs.Open.{Description}
-use Rattle.lsm_format.specs.Picture.{Strips, offsetOf, countOf, total, place, inside, inTurn, stripsPerPage, hasPage, stripsOn, channelStrips, coordinateThere, planeStrips, planeFrom, wholePicture, rowBytes, wholeStrips, rowsIn, wholeChannel, wholeChannels, wholePages, wholeRows, windowEnd, rowStrips, windowStrips, stripsBy, regionStrips, filledStrips, regionFrom}
+use Rattle.lsm_format.specs.Picture.{Strips, offsetOf, countOf, total, place, inside, inTurn, stripsPerPage, hasPage, stripsOn, channelStrips, coordinateThere, planeStrips, planeFrom, wholePicture, rowBytes, wholeStrips, rowsIn, wholeChannel, wholeRowsOf, wholeChannels, wholePages, wholeRows, windowEnd, rowStrips, windowStrips, stripsBy, regionStrips, filledStrips, regionFrom}
 use Rattle.lsm_format.proofs.Scenes.{page-some}
 use Rattle.lsm_format.proofs.Accepting.{Accepting, accepting-bind, accepting-then, accepting-need, accepting-given, accepting-map, accepting-told, both-hold}
 use Rattle.lsm_format.proofs.Opened.{Fits}
@@ -116,7 +116,7 @@ module _ (d : Description) (table rest : List ℕ) (fits : Fits d table) where
   -- ---- whole rows
 
   channel-own : (s : Strips) → Has table rest (s .first) (s .count) → wholeChannel d (table ++ rest) s ≡ wholeChannel d table s
-  unfolding wholeChannel
+  unfolding wholeChannel wholeRowsOf
   channel-own s h = rw (strips-own table rest (rowBytes d) (s .count) (s .first) h, rows-own table rest (rowBytes d) (s .count) (s .first) h)
 
   channels-own : (page n : ℕ) → page < pages (d .layout) → n ≤ d .dims .c →

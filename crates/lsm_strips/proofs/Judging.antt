@@ -21,7 +21,8 @@ use Rattle.lsm_format.proofs.Words.{word-some, word-none}
 use Rattle.lsm_format.proofs.Picture.{total-step, inside-none, page-there, page-missing, strips-oversized, strips-judged, given-some}
 use Rattle.lsm_format.proofs.Region.{below}
 use Rattle.lsm_format.proofs.Apart.{no-case}
-use Rattle.lsm_strips.specs.Parts.{wholeRowsOf, pageIn, pastTest}
+use Rattle.lsm_strips.specs.Parts.{pastTest}
+use Rattle.lsm_format.specs.Picture.{pageIn, wholeRowsOf}
 
 given-none : (r : List ℕ) (o : Option ℕ) (row : List ℕ) → given r o ≡ refused row → o ≡ none
 given-none r none row e = refl

@@ -1,27 +1,18 @@
 -- What the functions answer, in the definitions' terms.
-use Prim.Native.Nat.{ℕ, _+_, _*_, _^_, _≤_, _<_}
-use mathlib.Core.Bool.{Bool, false, not, _&&_}
+use Prim.Native.Nat.{ℕ, _+_, _^_, _≤_, _<_}
+use mathlib.Core.Bool.{Bool, false}
 use mathlib.Core.List.{List}
 use mathlib.Core.Option.{Option, none, some}
-use lib.Dec.{eqb, leb}
+use lib.Dec.{leb}
 use Rattle.lsm_format.specs.Answer.{Result, accepted, refused}
 use Rattle.lsm_format.specs.Code.{rowOf}
 use Rattle.lsm_format.specs.Open.{Description}
 use Rattle.lsm_format.specs.Rectangle.{Rect, Coordinate}
 use Rattle.lsm_format.specs.Scenes.{pages, pageOf}
 use Rattle.lsm_format.specs.Picture as Rule
-use Rattle.lsm_format.specs.Picture.{wholeStrips, rowsIn}
 use Rattle.lsm_strips.specs.declared.StripRun.{StripRun}
 use Rattle.lsm_strips.specs.declared.Found.{Found}
 use Rattle.lsm_strips.specs.declared.Found.the-variants.{Strips as At, Refused}
-
--- The strips hold whole rows, and together `height` of them.
-unfoldable pub wholeRowsOf : ℕ → List ℕ → ℕ → ℕ → ℕ → Bool
-wholeRowsOf row table i n height = wholeStrips row table i n && eqb (rowsIn row table i n) height
-
--- A table of `words` words has the page whole, where a page has `strips` strips.
-abbrev pub pageIn : ℕ → ℕ → ℕ → Bool
-pageIn strips words page = not (eqb strips 0) && leb (2 * ((page + 1) * strips)) words
 
 -- The strips that a picture is read from.
 abbrev pub stripsOf : StripRun → Rule.Strips

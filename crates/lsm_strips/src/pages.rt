@@ -15,9 +15,9 @@ ghost use mathlib.Core.Bool.{true};
 ghost use Prim.Native.Nat.{_+_, _*_, _≤_, _<_};
 ghost use lib.ListN.{length};
 ghost use Rattle.lsm_format.specs.Code.{coordinateOf};
-ghost use Rattle.lsm_format.specs.Picture.{stripsPerPage, channelStrips, rowBytes, wholeChannels, wholePage, wholePages, wholeRows};
+ghost use Rattle.lsm_format.specs.Picture.{stripsPerPage, pageIn, channelStrips, rowBytes, wholeChannels, wholePage, wholePages, wholeRows};
 ghost use Rattle.lsm_description.specs.Code.{descriptionOf};
-ghost use Rattle.lsm_strips.specs.Parts.{foundOf, pageIn, pastTest};
+ghost use Rattle.lsm_strips.specs.Parts.{foundOf, pastTest};
 
 // Whether a table of `words` words has this page whole, where a page has `strips` strips.
 fn has_page(strips: usize, words: usize, page: usize) -> bool

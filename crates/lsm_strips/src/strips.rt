@@ -7,8 +7,7 @@ ghost use lib.Dec.{leb};
 ghost use lib.ListN.{length};
 ghost use Rattle.lsm_format.specs.Answer.{decode};
 ghost use Rattle.lsm_format.specs.Code.{checkOf};
-ghost use Rattle.lsm_format.specs.Picture.{total, inside, inTurn};
-ghost use Rattle.lsm_strips.specs.Parts.{wholeRowsOf};
+ghost use Rattle.lsm_format.specs.Picture.{total, inside, inTurn, wholeRowsOf};
 
 // Whether a strip lies in a file of `len` bytes. Its end can overflow, so it isn't computed.
 fn lies_within(offset: usize, count: usize, len: usize) -> bool

@@ -16,7 +16,7 @@ use Rattle.lsm_format.specs.Lent.{lend}
 use Rattle.lsm_format.specs.Calibration.{uncalibrated}
 use Rattle.lsm_format.specs.Channels.{lookup, channelIn, pointers}
 use Rattle.lsm_format.specs.Open.{Description}
-use Rattle.lsm_format.specs.Picture.{Samples, sceneThere, coordinateThere, plane, planeFrom, planeStrips, inTurn, channelStrips, inside, total, samplesIn, channelPicture, window, span, picture, bytes, stored, place, eachSample, region, regionFrom, regionStrips, wholeRows, wholePages, wholeChannels, wholeChannel, wholeStrips, rowsIn, rowStrips, windowStrips, into}
+use Rattle.lsm_format.specs.Picture.{Samples, sceneThere, coordinateThere, plane, planeFrom, planeStrips, inTurn, channelStrips, inside, total, samplesIn, channelPicture, window, span, picture, bytes, stored, place, eachSample, region, regionFrom, regionStrips, wholeRows, wholePages, wholeChannels, wholeChannel, wholeRowsOf, wholeStrips, rowsIn, rowStrips, windowStrips, into}
 
 -- One time point; so many channels, planes, rows and columns; scenes of so many pages; strips of a channel.
 abbrev described : Kind → ℕ → ℕ → ℕ → ℕ → ℕ → ℕ → ℕ → Description
@@ -114,7 +114,7 @@ joined :
     -- the second channel's strip; the second page's
     × (plane (described u8 2 1 1 1 1 1 1) (0 ∷ 1 ∷ 3 ∷ 1 ∷ []) four (coordinate 0 0 1 0) ≡ samples 1 1 (13 ∷ []))
     × (plane (described u8 1 1 1 1 2 1 1) (0 ∷ 1 ∷ 3 ∷ 1 ∷ []) four (coordinate 1 0 0 0) ≡ samples 1 1 (13 ∷ []))
-unfolding plane planeFrom region regionFrom sceneThere coordinateThere coordinates rectangle planeStrips inTurn regionStrips rowStrips windowStrips wholeRows wholePages wholeChannels wholeChannel wholeStrips rowsIn pictureSize unlimitedSize word channelStrips pageOf inside total samplesIn channelPicture window span picture bytes stored place eachSample bind
+unfolding plane planeFrom region regionFrom sceneThere coordinateThere coordinates rectangle planeStrips inTurn regionStrips rowStrips windowStrips wholeRows wholePages wholeChannels wholeChannel wholeRowsOf wholeStrips rowsIn pictureSize unlimitedSize word channelStrips pageOf inside total samplesIn channelPicture window span picture bytes stored place eachSample bind
 joined = (refl, refl, refl, refl, refl)
 
 -- the same description in big-endian order
@@ -135,7 +135,7 @@ turned-round :
     (plane (turned (single u16 1 2 2)) (0 ∷ 3 ∷ 3 ∷ 1 ∷ []) four (coordinate 0 0 0 0) ≡ samples 1 2 (11 ∷ 10 ∷ 13 ∷ 12 ∷ []))
     × (region (turned (single u16 1 2 2)) (0 ∷ 3 ∷ 3 ∷ 1 ∷ []) four (coordinate 0 0 0 0) (rect 1 0 1 1) ≡ samples 1 1 (13 ∷ 12 ∷ []))
     × (plane (turned (single f32 1 1 1)) (0 ∷ 4 ∷ []) four (coordinate 0 0 0 0) ≡ samples 1 1 (13 ∷ 12 ∷ 11 ∷ 10 ∷ []))
-unfolding plane planeFrom region regionFrom sceneThere coordinateThere coordinates rectangle planeStrips inTurn regionStrips rowStrips windowStrips wholeRows wholePages wholeChannels wholeChannel wholeStrips rowsIn pictureSize unlimitedSize word channelStrips pageOf inside total samplesIn channelPicture window span picture bytes stored place eachSample bind
+unfolding plane planeFrom region regionFrom sceneThere coordinateThere coordinates rectangle planeStrips inTurn regionStrips rowStrips windowStrips wholeRows wholePages wholeChannels wholeChannel wholeRowsOf wholeStrips rowsIn pictureSize unlimitedSize word channelStrips pageOf inside total samplesIn channelPicture window span picture bytes stored place eachSample bind
 turned-round = (refl, refl, refl)
 
 -- ---- region
@@ -164,7 +164,7 @@ region-order :
     -- "buffer last"
     × (into (region (single u8 1 2 1) (1 ∷ 2 ∷ []) four (coordinate 0 0 0 0) (rect 1 0 1 1)) 0 ≡ refused (7 ∷ 1 ∷ []))
     × (into (region (single u8 1 2 1) (1 ∷ 2 ∷ []) four (coordinate 0 0 0 0) (rect 1 0 0 1)) 0 ≡ samples 1 0 [])
-unfolding region regionFrom into lend sceneThere coordinateThere coordinates rectangle planeStrips inTurn regionStrips rowStrips windowStrips wholeRows wholePages wholeChannels wholeChannel wholeStrips rowsIn pictureSize unlimitedSize word channelStrips pageOf inside total samplesIn channelPicture window span picture bytes stored place eachSample bind
+unfolding region regionFrom into lend sceneThere coordinateThere coordinates rectangle planeStrips inTurn regionStrips rowStrips windowStrips wholeRows wholePages wholeChannels wholeChannel wholeRowsOf wholeStrips rowsIn pictureSize unlimitedSize word channelStrips pageOf inside total samplesIn channelPicture window span picture bytes stored place eachSample bind
 region-order = (refl, refl, refl, refl, refl, refl, refl, refl, refl, refl, refl, refl, refl, refl, refl)
 
 -- ---- the whole-row test
@@ -186,7 +186,7 @@ whole-row-test :
     -- "or an overflow, means no": of the row's bytes; of the pages
     × (wholeRows (single u16 1 (2 ^ 63) 1) (0 ∷ 2 ^ 64 ∷ []) ≡ false)
     × (wholeRows (described u8 1 1 1 1 (2 ^ 32) (2 ^ 32) 1) (0 ∷ 1 ∷ []) ≡ false)
-unfolding wholeRows wholePages wholeChannels wholeChannel wholeStrips rowsIn
+unfolding wholeRows wholePages wholeChannels wholeChannel wholeRowsOf wholeStrips rowsIn
 whole-row-test = (refl, refl, refl, refl, refl, refl, refl, refl, refl, refl)
 
 -- ---- channel lookup
@@ -220,7 +220,7 @@ past-the-test :
     × (region (described u8 1 2 1 2 1 1 1) (0 ∷ 3 ∷ 0 ∷ 3 ∷ []) four (coordinate 0 0 0 1) (rect 0 0 2 1) ≡ refused (2 ∷ []))
     -- z past the depth of a scene may still be a page of the test
     × (region (described u8 1 2 1 2 2 1 1) (0 ∷ 2 ∷ 0 ∷ 3 ∷ []) four (coordinate 0 0 0 1) (rect 0 0 2 1) ≡ refused (2 ∷ []))
-unfolding plane planeFrom region regionFrom sceneThere coordinateThere coordinates rectangle planeStrips inTurn regionStrips rowStrips windowStrips wholeRows wholePages wholeChannels wholeChannel wholeStrips rowsIn pictureSize unlimitedSize word channelStrips pageOf inside total samplesIn channelPicture window span picture bytes stored place eachSample bind
+unfolding plane planeFrom region regionFrom sceneThere coordinateThere coordinates rectangle planeStrips inTurn regionStrips rowStrips windowStrips wholeRows wholePages wholeChannels wholeChannel wholeRowsOf wholeStrips rowsIn pictureSize unlimitedSize word channelStrips pageOf inside total samplesIn channelPicture window span picture bytes stored place eachSample bind
 past-the-test = (refl, refl, refl, refl, refl, refl, refl, refl, refl, refl)
 
 -- "an outcome that they leave free is named": a sample that is not in the joined strips
@@ -233,7 +233,7 @@ missing-sample :
     × (region (described u8 1 2 2 2 1 1 1) (0 ∷ 4 ∷ 1 ∷ 3 ∷ []) four (coordinate 0 0 0 1) (rect 1 0 1 1) ≡ samples 1 1 (12 ∷ []))
     -- half a sample isn't one
     × (region (described u16 1 1 1 2 1 0 1) (0 ∷ 3 ∷ []) four (coordinate 0 0 0 0) (rect 1 0 1 1) ≡ refused (2 ∷ []))
-unfolding region regionFrom sceneThere coordinateThere coordinates rectangle planeStrips inTurn regionStrips rowStrips windowStrips wholeRows wholePages wholeChannels wholeChannel wholeStrips rowsIn pictureSize unlimitedSize word channelStrips pageOf inside total samplesIn channelPicture window span picture bytes stored place eachSample bind
+unfolding region regionFrom sceneThere coordinateThere coordinates rectangle planeStrips inTurn regionStrips rowStrips windowStrips wholeRows wholePages wholeChannels wholeChannel wholeRowsOf wholeStrips rowsIn pictureSize unlimitedSize word channelStrips pageOf inside total samplesIn channelPicture window span picture bytes stored place eachSample bind
 missing-sample = (refl, refl, refl, refl, refl)
 
 -- ---- another input of docs/DIFFERENCES.md
@@ -241,5 +241,5 @@ missing-sample = (refl, refl, refl, refl, refl)
 rows-past-64-bits :
     -- a channel's rows that pass 64 bits: the whole-row test says no
     region (single u8 (2 ^ 33) 1 2) (0 ∷ (2 ^ 64 - 1) ∷ 0 ∷ (2 ^ 33 + 1) ∷ []) four (coordinate 0 0 0 0) (rect 0 0 1 1) ≡ refused (4 ∷ 8589934592 ∷ 4294967296 ∷ [])
-unfolding region regionFrom sceneThere coordinateThere coordinates rectangle planeStrips inTurn regionStrips rowStrips windowStrips wholeRows wholePages wholeChannels wholeChannel wholeStrips rowsIn pictureSize unlimitedSize word channelStrips pageOf inside total samplesIn channelPicture window span picture bytes stored place eachSample bind
+unfolding region regionFrom sceneThere coordinateThere coordinates rectangle planeStrips inTurn regionStrips rowStrips windowStrips wholeRows wholePages wholeChannels wholeChannel wholeRowsOf wholeStrips rowsIn pictureSize unlimitedSize word channelStrips pageOf inside total samplesIn channelPicture window span picture bytes stored place eachSample bind
 rows-past-64-bits = refl

@@ -20,7 +20,7 @@ use Rattle.lsm_format.specs.CzInfo.{czInfo, header, extents, voxels, channelBlo
 use Rattle.lsm_format.specs.Channels.{channelsRanges, channelRanges}
 use Rattle.lsm_format.specs.Directory.{directory, ends, entries, entry, scalar, scalarValues, array, arrayValues, entryValues, valueAt, valuesAt, valuePlace, typeSize, integerSize, entryRanges, entriesRanges, directoryRanges}
 use Rattle.lsm_format.specs.Open.{openFile, openMemory, read, tiffHeader, walk, chain, join, agrees, describeWalk, agreement, layoutFor, describe, chainRanges, walkRanges, openRanges}
-use Rattle.lsm_format.specs.Picture.{total, place, stored, inside, span, bytes, picture, eachSample, window, channelStrips, sceneThere, coordinateThere, planeStrips, inTurn, channelPicture, samplesIn, plane, planeFrom, wholeStrips, rowsIn, wholeChannel, wholeChannels, wholePages, wholeRows, rowStrips, windowStrips, regionStrips, regionFrom}
+use Rattle.lsm_format.specs.Picture.{total, place, stored, inside, span, bytes, picture, eachSample, window, channelStrips, sceneThere, coordinateThere, planeStrips, inTurn, channelPicture, samplesIn, plane, planeFrom, wholeStrips, rowsIn, wholeChannel, wholeRowsOf, wholeChannels, wholePages, wholeRows, rowStrips, windowStrips, regionStrips, regionFrom}
 use Rattle.lsm_format.specs.Listed.{stripsRanges, listed, spanRanges, sampleRanges, windowRanges, regionRanges, listedFor}
 use Rattle.lsm_format.proofs.Apart.{no-case}
 use Rattle.lsm_overwrite.specs.Blind.{Overwritten, Held, Blind, BlindFor}
@@ -50,16 +50,16 @@ all-lists = refl
 
 -- "of the strips only the places of its samples in the channel's joined strips": "byte 117", and not 116
 second-lists : flat (listedFor G (coordinate 0 0 0 0) second) ≡ G-open ++ (117, 1) ∷ []
-unfolding listedFor regionRanges regionFrom windowRanges sampleRanges spanRanges place sceneThere coordinateThere coordinates rectangle regionStrips wholeRows wholePages wholeChannels wholeChannel wholeStrips rowsIn rowStrips windowStrips total pictureSize unlimitedSize channelStrips pageOf inside openRanges read describeWalk agreement layoutFor describe czInfo extents voxels channelBlock shots layout scenes pagesExpected word walkRanges chainRanges directoryRanges entriesRanges entryRanges czRanges over inFile flat tiffHeader walk chain join agrees directory ends entries entry scalar scalarValues array arrayValues entryValues valueAt valuesAt valuePlace typeSize integerSize header i32At signed32 numberAt partAt bind
+unfolding listedFor regionRanges regionFrom windowRanges sampleRanges spanRanges place sceneThere coordinateThere coordinates rectangle regionStrips wholeRows wholePages wholeChannels wholeChannel wholeRowsOf wholeStrips rowsIn rowStrips windowStrips total pictureSize unlimitedSize channelStrips pageOf inside openRanges read describeWalk agreement layoutFor describe czInfo extents voxels channelBlock shots layout scenes pagesExpected word walkRanges chainRanges directoryRanges entriesRanges entryRanges czRanges over inFile flat tiffHeader walk chain join agrees directory ends entries entry scalar scalarValues array arrayValues entryValues valueAt valuesAt valuePlace typeSize integerSize header i32At signed32 numberAt partAt bind
 second-lists = refl
 
 -- "none if it isn't accepted": a rectangle that passes the picture; and none of an empty one
 passing-lists : flat (listedFor G (coordinate 0 0 0 0) (record { x = 1; y = 0; w = 2; h = 1 })) ≡ G-open
-unfolding listedFor regionRanges regionFrom windowRanges sampleRanges spanRanges place sceneThere coordinateThere coordinates rectangle regionStrips wholeRows wholePages wholeChannels wholeChannel wholeStrips rowsIn rowStrips windowStrips total pictureSize unlimitedSize channelStrips pageOf inside openRanges read describeWalk agreement layoutFor describe czInfo extents voxels channelBlock shots layout scenes pagesExpected word walkRanges chainRanges directoryRanges entriesRanges entryRanges czRanges over inFile flat tiffHeader walk chain join agrees directory ends entries entry scalar scalarValues array arrayValues entryValues valueAt valuesAt valuePlace typeSize integerSize header i32At signed32 numberAt partAt bind
+unfolding listedFor regionRanges regionFrom windowRanges sampleRanges spanRanges place sceneThere coordinateThere coordinates rectangle regionStrips wholeRows wholePages wholeChannels wholeChannel wholeRowsOf wholeStrips rowsIn rowStrips windowStrips total pictureSize unlimitedSize channelStrips pageOf inside openRanges read describeWalk agreement layoutFor describe czInfo extents voxels channelBlock shots layout scenes pagesExpected word walkRanges chainRanges directoryRanges entriesRanges entryRanges czRanges over inFile flat tiffHeader walk chain join agrees directory ends entries entry scalar scalarValues array arrayValues entryValues valueAt valuesAt valuePlace typeSize integerSize header i32At signed32 numberAt partAt bind
 passing-lists = refl
 
 empty-lists : flat (listedFor G (coordinate 0 0 0 0) (record { x = 1; y = 0; w = 0; h = 1 })) ≡ G-open
-unfolding listedFor regionRanges regionFrom windowRanges sampleRanges spanRanges place sceneThere coordinateThere coordinates rectangle regionStrips wholeRows wholePages wholeChannels wholeChannel wholeStrips rowsIn rowStrips windowStrips total pictureSize unlimitedSize channelStrips pageOf inside openRanges read describeWalk agreement layoutFor describe czInfo extents voxels channelBlock shots layout scenes pagesExpected word walkRanges chainRanges directoryRanges entriesRanges entryRanges czRanges over inFile flat tiffHeader walk chain join agrees directory ends entries entry scalar scalarValues array arrayValues entryValues valueAt valuesAt valuePlace typeSize integerSize header i32At signed32 numberAt partAt bind
+unfolding listedFor regionRanges regionFrom windowRanges sampleRanges spanRanges place sceneThere coordinateThere coordinates rectangle regionStrips wholeRows wholePages wholeChannels wholeChannel wholeRowsOf wholeStrips rowsIn rowStrips windowStrips total pictureSize unlimitedSize channelStrips pageOf inside openRanges read describeWalk agreement layoutFor describe czInfo extents voxels channelBlock shots layout scenes pagesExpected word walkRanges chainRanges directoryRanges entriesRanges entryRanges czRanges over inFile flat tiffHeader walk chain join agrees directory ends entries entry scalar scalarValues array arrayValues entryValues valueAt valuesAt valuePlace typeSize integerSize header i32At signed32 numberAt partAt bind
 empty-lists = refl
 
 -- ---- on the list or not

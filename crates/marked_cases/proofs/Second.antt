@@ -14,7 +14,7 @@ use Rattle.lsm_format.specs.CzInfo.{czInfo, header, extents, voxels, channelBlo
 use Rattle.lsm_format.specs.Channels.{pointers, nameRecord, colorAtRanges, colorRanges, recordRanges, nameRanges, channelsRanges, channelRanges}
 use Rattle.lsm_format.specs.Directory.{directory, ends, entries, entry, scalar, scalarValues, array, arrayValues, entryValues, valueAt, valuesAt, valuePlace, typeSize, integerSize, entryRanges, entriesRanges, directoryRanges}
 use Rattle.lsm_format.specs.Open.{read, tiffHeader, walk, chain, join, agrees, describeWalk, agreement, layoutFor, describe, chainRanges, walkRanges, openRanges}
-use Rattle.lsm_format.specs.Picture.{place, inside, total, channelStrips, sceneThere, coordinateThere, planeStrips, inTurn, wholeStrips, rowsIn, wholeChannel, wholeChannels, wholePages, wholeRows, rowStrips, windowStrips, regionStrips, regionFrom}
+use Rattle.lsm_format.specs.Picture.{place, inside, total, channelStrips, sceneThere, coordinateThere, planeStrips, inTurn, wholeStrips, rowsIn, wholeChannel, wholeRowsOf, wholeChannels, wholePages, wholeRows, rowStrips, windowStrips, regionStrips, regionFrom}
 use Rattle.lsm_format.specs.Listed.{stripsRanges, listed, spanRanges, sampleRanges, windowRanges, regionRanges, listedFor}
 
 -- Little-endian, 480 bytes. The numbers in front are places in the file; those of the CZ block's parts are counted from its start.
@@ -134,5 +134,5 @@ row = record { x = 0; y = 1; w = 2; h = 1 }
 -- "For one rectangle, of the strips only the places of its samples in the channel's joined strips": the last byte of the first strip, and
 -- the second strip. None of the channel block.
 row-lists : flat (listedFor H (coordinate 0 0 0 0) row) ≡ H-open ++ (476, 1) ∷ (478, 1) ∷ []
-unfolding listedFor regionRanges regionFrom windowRanges sampleRanges spanRanges place sceneThere coordinateThere coordinates rectangle regionStrips planeStrips inTurn total wholeRows wholePages wholeChannels wholeChannel wholeStrips rowsIn rowStrips windowStrips pictureSize unlimitedSize channelStrips pageOf inside read describeWalk agreement layoutFor describe czInfo extents voxels channelBlock shots layout scenes pagesExpected word openRanges walkRanges chainRanges directoryRanges entriesRanges entryRanges czRanges over inFile flat tiffHeader walk chain join agrees directory ends entries entry scalar scalarValues array arrayValues entryValues valueAt valuesAt valuePlace typeSize integerSize header i32At signed32 numberAt partAt bind
+unfolding listedFor regionRanges regionFrom windowRanges sampleRanges spanRanges place sceneThere coordinateThere coordinates rectangle regionStrips planeStrips inTurn total wholeRows wholePages wholeChannels wholeChannel wholeRowsOf wholeStrips rowsIn rowStrips windowStrips pictureSize unlimitedSize channelStrips pageOf inside read describeWalk agreement layoutFor describe czInfo extents voxels channelBlock shots layout scenes pagesExpected word openRanges walkRanges chainRanges directoryRanges entriesRanges entryRanges czRanges over inFile flat tiffHeader walk chain join agrees directory ends entries entry scalar scalarValues array arrayValues entryValues valueAt valuesAt valuePlace typeSize integerSize header i32At signed32 numberAt partAt bind
 row-lists = refl

@@ -13,7 +13,7 @@ use Rattle.lsm_format.specs.Lent.{lend}
 use Rattle.lsm_format.specs.CzInfo.{czInfo, header, extents, voxels, channelBlock, shots}
 use Rattle.lsm_format.specs.Directory.{directory, ends, entries, entry, scalar, scalarValues, array, arrayValues, entryValues, valueAt, valuesAt, valuePlace, typeSize, integerSize}
 use Rattle.lsm_format.specs.Open.{openFile, read, tiffHeader, walk, chain, join, agrees, describeWalk, agreement, layoutFor, describe}
-use Rattle.lsm_format.specs.Picture.{sceneThere, coordinateThere, plane, planeFrom, planeStrips, inTurn, channelStrips, inside, total, samplesIn, channelPicture, window, span, picture, bytes, stored, place, eachSample, region, regionFrom, regionStrips, wholeRows, wholePages, wholeChannels, wholeChannel, wholeStrips, rowsIn, rowStrips, windowStrips}
+use Rattle.lsm_format.specs.Picture.{sceneThere, coordinateThere, plane, planeFrom, planeStrips, inTurn, channelStrips, inside, total, samplesIn, channelPicture, window, span, picture, bytes, stored, place, eachSample, region, regionFrom, regionStrips, wholeRows, wholePages, wholeChannels, wholeChannel, wholeRowsOf, wholeStrips, rowsIn, rowStrips, windowStrips}
 use Rattle.lsm_format.specs.Utf8.{lossy, lossyBy, piece}
 use Rattle.lsm_format.specs.Calibration.{figure, tensAbove, tensBelow}
 use Rattle.lsm_format.specs.Channels.{channelIn}
@@ -23,7 +23,7 @@ use Rattle.marked_cases.specs.Marked.{G, G-with, G-plane, G-region, Mark
 -- ---- the marked cases
 
 pub marked : Marked
-unfolding figure tensAbove tensBelow lossy lossyBy piece openFile read tiffHeader walk chain join agrees directory ends entries entry scalar scalarValues array arrayValues entryValues valueAt valuesAt valuePlace typeSize integerSize describeWalk agreement layoutFor describe czInfo header extents voxels channelBlock shots i32At signed32 numberAt partAt layout scenes pagesExpected word lend bind sceneThere coordinateThere coordinates rectangle plane planeFrom planeStrips inTurn pictureSize unlimitedSize channelStrips pageOf inside total samplesIn channelPicture window span picture bytes stored place eachSample region regionFrom regionStrips wholeRows wholePages wholeChannels wholeChannel wholeStrips rowsIn rowStrips windowStrips
+unfolding figure tensAbove tensBelow lossy lossyBy piece openFile read tiffHeader walk chain join agrees directory ends entries entry scalar scalarValues array arrayValues entryValues valueAt valuesAt valuePlace typeSize integerSize describeWalk agreement layoutFor describe czInfo header extents voxels channelBlock shots i32At signed32 numberAt partAt layout scenes pagesExpected word lend bind sceneThere coordinateThere coordinates rectangle plane planeFrom planeStrips inTurn pictureSize unlimitedSize channelStrips pageOf inside total samplesIn channelPicture window span picture bytes stored place eachSample region regionFrom regionStrips wholeRows wholePages wholeChannels wholeChannel wholeRowsOf wholeStrips rowsIn rowStrips windowStrips
 marked = record {
   figure-1005 = refl;
   figure-1015 = refl;
@@ -70,7 +70,7 @@ pictures :
     (G-plane G ≡ accepted (record { rows = 1; columns = 2; bytes = 7 ∷ 9 ∷ [] }))
     -- the rectangle at column 1 where plane is refused
     × (G-region (G-with 66 1) 1 0 1 1 ≡ refused (2 ∷ []))
-unfolding openFile read tiffHeader walk chain join agrees directory ends entries entry scalar scalarValues array arrayValues entryValues valueAt valuesAt valuePlace typeSize integerSize describeWalk agreement layoutFor describe czInfo header extents voxels channelBlock shots i32At signed32 numberAt partAt layout scenes pagesExpected word lend bind sceneThere coordinateThere coordinates rectangle plane planeFrom planeStrips inTurn pictureSize unlimitedSize channelStrips pageOf inside total samplesIn channelPicture window span picture bytes stored place eachSample region regionFrom regionStrips wholeRows wholePages wholeChannels wholeChannel wholeStrips rowsIn rowStrips windowStrips
+unfolding openFile read tiffHeader walk chain join agrees directory ends entries entry scalar scalarValues array arrayValues entryValues valueAt valuesAt valuePlace typeSize integerSize describeWalk agreement layoutFor describe czInfo header extents voxels channelBlock shots i32At signed32 numberAt partAt layout scenes pagesExpected word lend bind sceneThere coordinateThere coordinates rectangle plane planeFrom planeStrips inTurn pictureSize unlimitedSize channelStrips pageOf inside total samplesIn channelPicture window span picture bytes stored place eachSample region regionFrom regionStrips wholeRows wholePages wholeChannels wholeChannel wholeRowsOf wholeStrips rowsIn rowStrips windowStrips
 pictures = (refl, refl)
 
 -- ---- what the lister prints

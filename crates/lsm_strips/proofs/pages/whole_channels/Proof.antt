@@ -7,7 +7,7 @@ use native.Mathlib.Nat.{suc-mul, mul-le-mul-right, not-suc-le-zero}
 use mathlib.Core.Path.{_≡_, sym, _∙_}
 use mathlib.Core.Bool.{true}
 use borrow.Author.Tests.{not-true, not-false}
-use Rattle.lsm_strips.specs.Parts.{wholeRowsOf}
+use Rattle.lsm_format.specs.Picture.{wholeRowsOf}
 use Rattle.lsm_strips.proofs.Judging.{channels-whole, channels-broken, up-to}
 use borrow.Author.Needs.{needs}
 

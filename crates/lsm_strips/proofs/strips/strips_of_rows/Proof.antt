@@ -4,7 +4,7 @@ use Rattle.lsm_strips.proofs.strips.strips_of_rows.Tie as tie
 use native.Mathlib.Omega.{arith}
 use Prim.Native.Nat.{_+_}
 use mathlib.Core.Path.{_≡_, refl, sym, _∙_}
-use Rattle.lsm_strips.specs.Parts.{wholeRowsOf}
+use Rattle.lsm_format.specs.Picture.{wholeRowsOf}
 use Rattle.lsm_strips.proofs.Judging.{rows-none, rows-odd, rows-over, rows-next}
 use borrow.Author.Needs.{needs}
 
