@@ -3,8 +3,9 @@
 
     tools/list_files.py        run at the repository's root
 
-files/NAME.lsm and files/NAME.txt are a file and its printout. crates/lsm_list runs on G alone. crates/lsm_list_files runs on all
-of them: on its standard input stand, for each file, its length as four bytes, the lowest first, and then its bytes.
+files/NAME.lsm and files/NAME.txt are a file and its printout. ./test runs the lister on each of them. crates/lsm_list has G alone as
+its standard input. crates/lsm_list_files lists all of them: on its standard input stand, for each file, its length as four bytes, the
+lowest first, and then its bytes.
 """
 import struct
 from pathlib import Path
@@ -17,8 +18,11 @@ def file(name, data, *lines):
 
 
 def bits(size):
-    """A voxel size in metres as the f32 bits of its micrometres: a product of two f64, narrowed."""
-    return struct.pack('>f', size * 1e6).hex()
+    """A voxel size in metres as the f32 bits of its micrometres: a product of two f64, narrowed; infinite where it passes the largest."""
+    try:
+        return struct.pack('>f', size * 1e6).hex()
+    except OverflowError:
+        return '7f800000'
 
 
 class Order:
@@ -61,15 +65,15 @@ def many_strips(count):
     return head.ljust(offsets, b'\0') + arrays + o.pack('IIIIIII', 0x0400494C, 28, 1, count, 1, 1, 1)
 
 
-def scenes(order, voxels, positions, tiles, colors, names):
-    """Pictures of 2 by 1 samples of 16 bits, a strip to a channel, a page to a scene; a CZ block of 272 bytes and a channel block."""
+def scenes(order, voxels, positions, tiles, colors, names, sample=(16, 1)):
+    """Pictures of 2 by 1 samples (bits, format), a strip to a channel, a page to a scene; a CZ block of 272 bytes and a channel block."""
     o = Order(order)
     pages, channels = positions * tiles, len(names)
     at = {}
     place = 8
     for page in range(pages):
         at[page] = place
-        place += 2 + 12 * (9 if page == 0 else 8) + 4
+        place += 2 + 12 * (10 if page == 0 else 9) + 4
     offsets = place
     counts = offsets + 4 * channels
     cz = counts + 4 * channels
@@ -77,8 +81,8 @@ def scenes(order, voxels, positions, tiles, colors, names):
     body = b''
     for page in range(pages):
         entries = [
-            o.entry(256, 3, 2), o.entry(257, 3, 1), o.entry(258, 3, 16), o.entry(259, 3, 1), o.entry(273, 4, channels, place=offsets),
-            o.entry(277, 3, channels), o.entry(279, 4, channels, place=counts), o.entry(284, 3, 2),
+            o.entry(256, 3, 2), o.entry(257, 3, 1), o.entry(258, 3, sample[0]), o.entry(259, 3, 1), o.entry(273, 4, channels, place=offsets),
+            o.entry(277, 3, channels), o.entry(279, 4, channels, place=counts), o.entry(284, 3, 2), o.entry(339, 3, sample[1]),
         ]
         if page == 0:
             entries.append(o.entry(34412, 1, 272, place=cz))
@@ -116,6 +120,23 @@ file(
     'long-names', scenes('I', (1e-6, 1e-6, 1e-6), 1, 2, [(9, 9, 9)] * 3, [b'\xff' * 1024, b'n' * 1025, b'end']),
     'accepted', 'dims 1 3 1 1 2', 'kind 1', f'pixel {bits(1e-6)} {bits(1e-6)} {bits(1e-6)}', 'scenes 2', 'image #1', 'image #2', 'channels 3',
     '090909 =' + 'efbfbd' * 1024, '090909 -', '090909 =656e64', 'notes 0',
+)
+# "An X or Y that turns infinite or 0 after that is kept"; kind 2 is I16, kind 3 F32
+file(
+    'signed', scenes('M', (1e33, 1e-60, 2e-6), 1, 1, [(0, 0, 255), (0, 255, 0)], [b'a', b'b'], sample=(16, 2)),
+    'accepted', 'dims 1 2 1 1 2', 'kind 2', f'pixel {bits(1e33)} {bits(1e-60)} {bits(2e-6)}', 'scenes 1', 'image', 'channels 2', '0000ff =61',
+    '00ff00 =62', 'notes 0',
+)
+file(
+    'float', scenes('I', (4e-8, float('inf'), float('inf')), 1, 1, [(1, 0, 0)] * 2, [b'c', b'd'], sample=(32, 3)),
+    'accepted', 'dims 1 2 1 1 2', 'kind 3', f'pixel {bits(4e-8)} 7f800000 -', 'scenes 1', 'image', 'channels 2', '010000 =63', '010000 =64',
+    'notes 0',
+)
+# a printout that passes 65,536 bytes
+file(
+    'many-names', scenes('I', (1e-6, 1e-6, 1e-6), 1, 1, [(9, 9, 9)] * 11, [b'\xff' * 1024] * 11),
+    'accepted', 'dims 1 11 1 1 2', 'kind 1', f'pixel {bits(1e-6)} {bits(1e-6)} {bits(1e-6)}', 'scenes 1', 'image', 'channels 11',
+    *['090909 =' + 'efbfbd' * 1024] * 11, 'notes 0',
 )
 file('too-long', bytes(65537), 'too long')
 file('longest', bytes(65536), 'refused 1')

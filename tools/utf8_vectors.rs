@@ -2,7 +2,7 @@
 // hexadecimal. The texts are those of Rust's `String::from_utf8_lossy`. From the repository's folder:
 //
 //     rustc --edition 2021 -O -o target/utf8_vectors_list tools/utf8_vectors.rs
-//     target/utf8_vectors_list > crates/utf8_vectors/stdin
+//     target/utf8_vectors_list | tools/wrong_lines.py utf8_vectors > crates/utf8_vectors/stdin
 //
 // The list is the same at every run: the sample has a seed of its own.
 

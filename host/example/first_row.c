@@ -42,7 +42,7 @@ static uint8_t *read_file(const char *path, size_t *len)
     }
     long n = ftell(f);
     rewind(f);
-    uint8_t *bytes = room(n < 0 ? 0 : (size_t)n, 1);
+    uint8_t *bytes = (uint8_t *)room(n < 0 ? 0 : (size_t)n, 1);
     *len = n < 0 ? 0 : fread(bytes, 1, (size_t)n, f);
     fclose(f);
     return bytes;
@@ -80,7 +80,7 @@ int main(int argc, char **argv)
     if (lsm_open(file, len, &nothing, 0, answer) != 7)
         return refused(answer);
     size_t words = answer[1];
-    size_t *table = room(words, sizeof *table);
+    size_t *table = (size_t *)room(words, sizeof *table);
     if (lsm_open(file, len, table, words, answer) != 0)
         return refused(answer);
 
@@ -111,7 +111,7 @@ int main(int argc, char **argv)
     if (lsm_region(file, len, description, table, words, 0, 0, 0, 0, 0, 0, width, 1, &none, 0, picture) != 7)
         return refused(picture);
     size_t bytes = picture[1];
-    uint8_t *samples = room(bytes, 1);
+    uint8_t *samples = (uint8_t *)room(bytes, 1);
     if (lsm_region(file, len, description, table, words, 0, 0, 0, 0, 0, 0, width, 1, samples, bytes, picture) != 0)
         return refused(picture);
     fputs("row 0:", stdout);

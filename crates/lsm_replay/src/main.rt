@@ -1,10 +1,10 @@
 // Asks the ported functions what standard input says that the Rust was asked, and compares every number of the answers. A line
-// is as vectors::text has it; tools/record writes the list, and its README.md says what the numbers are.
+// is as vectors::text has it; tools/record writes the list, and its README.md says what the numbers are. The list begins with lines that
+// are wrong on purpose (tools/wrong_lines.py).
 use crate::cz::block;
 use crate::ground::ground;
 use crate::voxels::voxels;
 use libc::STDIN_FILENO;
-use libc::STDOUT_FILENO;
 use vectors::report::Tally;
 use vectors::report::report;
 use vectors::text::Row;
@@ -90,14 +90,7 @@ fn main() {
     let mut text = [0u8; 524288];
     let n = io::read_full(STDIN_FILENO, &mut text);
     let t = compare(&text[..n]);
-    let ground = report(b"ground ", t.ground);
-    let voxels = report(b"calibration ", t.voxels);
-    let blocks = report(b"cz ", t.blocks);
-    if ground {
-        if voxels {
-            if blocks {
-                io::write_all(STDOUT_FILENO, b"all agree\n");
-            }
-        }
-    }
+    report(b"ground ", t.ground);
+    report(b"calibration ", t.voxels);
+    report(b"cz ", t.blocks);
 }

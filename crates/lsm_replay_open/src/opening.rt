@@ -9,6 +9,7 @@ use vectors::same::WORD;
 use vectors::same::kept_words;
 use vectors::same::same_front;
 use vectors::same::same_words;
+use vectors::same::words_then_kept;
 ghost use mathlib.Core.Path.{_≡_};
 ghost use mathlib.Core.Bool.{true};
 ghost use Prim.Native.Nat.{_≤_};
@@ -48,10 +49,7 @@ fn opened(said: &[usize], o: Opened, table: &[usize]) -> bool
     if !same_words(&said[3..OPEN_WORDS], &description_words(d)) {
         return false;
     }
-    if !same_words(&said[OPEN_WORDS..], &table[..count]) {
-        return false;
-    }
-    kept_words(&table[count..])
+    words_then_kept(&said[OPEN_WORDS..], table, count, WORD)
 }
 
 // Whether opening a file with a table lent gives what is said.
@@ -61,7 +59,7 @@ fn answered(said: &[usize], file: &[u8], table: &mut [usize]) -> bool
     match open_file(file, table) {
         OpenAnswer::Opened(o) => opened(said, o, table),
         OpenAnswer::Refused(r) => {
-            if !kept_words(table) {
+            if !kept_words(table, WORD) {
                 return false;
             }
             refused(said, r)

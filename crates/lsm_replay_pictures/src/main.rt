@@ -1,96 +1,104 @@
-// Asks for planes and rectangles of the files of standard input, and compares every answer with the Rust's, sample by sample, and the
-// lent memory past an answer with what was in it. A line is as vectors::text has it, with the letter `p` or `r`.
-use crate::picture::agrees;
+// Asks for planes and rectangles of the files of standard input, once by the functions and once by the C functions, and compares every
+// answer with the Rust's, sample by sample, and the lent memory past an answer with what was in it. A line is as vectors::text has it,
+// with the letter `p` or `r`, or `q` or `h` for the same in C with a description and a table that the line hands in. The list begins with lines
+// that are wrong on purpose (tools/wrong_lines.py).
 use libc::STDIN_FILENO;
-use libc::STDOUT_FILENO;
+use vectors::report::Tally;
+use vectors::report::report;
 ghost use mathlib.Core.Path.{_≡_};
 ghost use mathlib.Core.Bool.{true};
-ghost use Prim.Native.Nat.{_+_, _<_, _≤_};
+ghost use Prim.Native.Nat.{_<_, _≤_};
 ghost use lib.ListN.{length};
 
+mod in_c;
 mod picture;
 
-// How many lines there were, how many of these ask for a plane, how many agree, and the first that differs; 0 for none.
-struct Tally {
-    lines: usize,
-    planes: usize,
-    agree: usize,
-    first: usize,
-}
-
-fn one(b: bool) -> usize
-    ensures { λ r. ⌜ (r ≤ 1) × (b ≡ true → r ≡ 1) ⌝ }
+// Whether the C function's answer is the line's.
+fn agrees_in_c(letter: u8, said: &[usize], file: &[u8]) -> bool
+    ensures { λ r. ⌜ (r ≡ true → 1 ≤ length (now (said .entry))) ⌝ }
 {
-    if b { 1 } else { 0 }
-}
-
-// The first line that differs, with one line more.
-fn first_of(first: usize, line: usize, agrees: bool) -> usize
-    ensures { λ r. ⌜ (agrees ≡ true → r ≡ first) ⌝ }
-{
-    if agrees {
-        return first;
-    }
-    if first == 0 {
-        return line;
-    }
-    first
-}
-
-impl Tally {
-    fn counted(self, plane: bool, agrees: bool) -> Tally
-        requires { ⌜ (self .planes ≤ self .lines) × (self .agree ≤ self .lines) × (self .lines + 1 < 18446744073709551616) ⌝ }
-        ensures { λ r. ⌜ (r .lines ≡ self .lines + 1) × (r .planes ≤ r .lines) × (r .agree ≤ r .lines) ⌝ }
-        ensures { λ r. ⌜ (agrees ≡ true → (r .agree ≡ self .agree + 1) × (r .first ≡ self .first)) ⌝ }
-    {
-        let lines = self.lines + 1;
-        Tally {
-            lines,
-            planes: self.planes + one(plane),
-            agree: self.agree + one(agrees),
-            first: first_of(self.first, lines, agrees),
-        }
+    match letter {
+        b'q' | b'h' => in_c::handed(letter, said, file),
+        _ => in_c::agrees(letter, said, file),
     }
 }
 
-fn compare(text: &[u8]) -> Tally
-    ensures { λ r. ⌜ (r .lines ≤ length (now (text .entry))) × (r .planes ≤ r .lines) × (r .agree ≤ r .lines) ⌝ }
+// A line: its letter, whether the answer and the C function's are as it says, and where the next begins.
+struct Told {
+    letter: u8,
+    agrees: bool,
+    in_c: bool,
+    next: usize,
+}
+
+fn told_at(text: &[u8], at: usize) -> Told
+    requires { ⌜ at < length (now text) ⌝ }
+    ensures { λ r. ⌜ (at < r .next) × (r .next ≤ length (now (text .entry))) ⌝ }
 {
-    let mut tally = Tally {
-        lines: 0,
-        planes: 0,
-        agree: 0,
-        first: 0,
-    };
+    let mut numbers = [0usize; 1024];
+    let mut bytes = [0u8; 4096];
+    let line = vectors::text::line_at(text, at, &mut numbers, &mut bytes);
+    let count = line.count;
+    let len = line.len;
+    Told {
+        letter: line.kind,
+        agrees: picture::agrees(line.kind, &numbers[..count], &bytes[..len]),
+        in_c: agrees_in_c(line.kind, &numbers[..count], &bytes[..len]),
+        next: line.next,
+    }
+}
+
+// How the functions' answers compare, and the C functions'.
+struct Tallies {
+    planes: Tally,
+    rectangles: Tally,
+    pictured: Tally,
+    windowed: Tally,
+    handed: Tally,
+}
+
+fn compare(text: &[u8]) -> Tallies
+    ensures { λ r. ⌜ (r .planes .cases ≤ length (now (text .entry))) × (r .planes .differ ≤ r .planes .cases) ⌝ }
+    ensures { λ r. ⌜ (r .rectangles .cases ≤ length (now (text .entry))) × (r .rectangles .differ ≤ r .rectangles .cases) ⌝ }
+    ensures { λ r. ⌜ (r .pictured .cases ≡ r .planes .cases) × (r .pictured .differ ≤ r .pictured .cases) ⌝ }
+    ensures { λ r. ⌜ (r .windowed .cases ≡ r .rectangles .cases) × (r .windowed .differ ≤ r .windowed .cases) ⌝ }
+    ensures { λ r. ⌜ (r .handed .cases ≤ length (now (text .entry))) × (r .handed .differ ≤ r .handed .cases) ⌝ }
+{
+    let mut planes = Tally::none();
+    let mut rectangles = Tally::none();
+    let mut pictured = Tally::none();
+    let mut windowed = Tally::none();
+    let mut handed = Tally::none();
     let mut at = 0;
     while at < text.len() {
-        let mut numbers = [0usize; 1024];
-        let mut bytes = [0u8; 4096];
-        let line = vectors::text::line_at(text, at, &mut numbers, &mut bytes);
-        let count = line.count;
-        let len = line.len;
-        let same = agrees(line.kind, &numbers[..count], &bytes[..len]);
-        tally = tally.counted(line.kind == b'p', same);
-        at = line.next;
+        let t = told_at(text, at);
+        at = t.next;
+        if t.letter == b'p' {
+            planes = planes.counted(t.agrees);
+            pictured = pictured.counted(t.in_c);
+        } else if t.letter == b'r' {
+            rectangles = rectangles.counted(t.agrees);
+            windowed = windowed.counted(t.in_c);
+        } else {
+            handed = handed.counted(t.in_c);
+        }
     }
-    tally
+    Tallies {
+        planes,
+        rectangles,
+        pictured,
+        windowed,
+        handed,
+    }
 }
 
 fn main() {
     let mut text = [0u8; 524288];
     let n = io::read_full(STDIN_FILENO, &mut text);
     let t = compare(&text[..n]);
-    io::write_all(STDOUT_FILENO, b"planes ");
-    io::print_decimal(STDOUT_FILENO, t.planes as u64);
-    io::write_all(STDOUT_FILENO, b", rectangles ");
-    io::print_decimal(STDOUT_FILENO, (t.lines - t.planes) as u64);
-    io::write_all(STDOUT_FILENO, b", agree ");
-    io::print_decimal(STDOUT_FILENO, t.agree as u64);
-    if t.agree == t.lines {
-        io::write_all(STDOUT_FILENO, b"\nall agree\n");
-    } else {
-        io::write_all(STDOUT_FILENO, b"\nthe first that differs is line ");
-        io::print_decimal(STDOUT_FILENO, t.first as u64);
-        io::write_all(STDOUT_FILENO, b"\n");
-    }
+    report(b"planes ", t.planes);
+    report(b"rectangles ", t.rectangles);
+    report(b"planes in C ", t.pictured);
+    report(b"rectangles in C ", t.windowed);
+    report(b"handed in, in C ", t.handed);
 }

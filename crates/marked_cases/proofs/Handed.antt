@@ -4,19 +4,22 @@
 use Prim.Native.Nat.{ℕ, _+_, _-_, _^_}
 use mathlib.Core.Path.{_≡_, refl}
 use mathlib.Core.Bool.{true, false}
-use mathlib.Core.List.{List, [], _∷_}
+use mathlib.Core.List.{List, [], _∷_, _++_}
 use mathlib.Core.Option.{none, some}
+use lib.ListN.{take, set}
 use Rattle.lsm_format.specs.Answer.{Result, accepted, refused, bind}
+use Rattle.lsm_format.specs.Ranges.{over, flat}
 use Rattle.lsm_format.specs.Words.{word}
-use Rattle.lsm_format.specs.Numbers.{little, big, partAt}
+use Rattle.lsm_format.specs.Numbers.{little, big, partAt, numberAt, i32At, signed32}
 use Rattle.lsm_format.specs.Sizes.{Kind, u8, u16, f32, pictureSize, unlimitedSize}
 use Rattle.lsm_format.specs.Rectangle.{Rect, coordinate, coordinates, rectangle}
 use Rattle.lsm_format.specs.Scenes.{pageOf}
 use Rattle.lsm_format.specs.Lent.{lend}
 use Rattle.lsm_format.specs.Calibration.{uncalibrated}
-use Rattle.lsm_format.specs.Channels.{lookup, channelIn, pointers}
+use Rattle.lsm_format.specs.Channels.{lookup, channelIn, pointers, color, colorAt, name, nameSpan}
 use Rattle.lsm_format.specs.Open.{Description}
 use Rattle.lsm_format.specs.Picture.{Samples, sceneThere, coordinateThere, plane, planeFrom, planeStrips, inTurn, channelStrips, inside, total, samplesIn, channelPicture, window, span, picture, bytes, stored, place, eachSample, region, regionFrom, regionStrips, wholeRows, wholePages, wholeChannels, wholeChannel, wholeRowsOf, wholeStrips, rowsIn, rowStrips, windowStrips, into}
+use Rattle.lsm_format.specs.Listed.{spanRanges, sampleRanges, windowRanges, regionRanges}
 
 -- One time point; so many channels, planes, rows and columns; scenes of so many pages; strips of a channel.
 abbrev described : Kind → ℕ → ℕ → ℕ → ℕ → ℕ → ℕ → ℕ → Description
@@ -138,6 +141,15 @@ turned-round :
 unfolding plane planeFrom region regionFrom sceneThere coordinateThere coordinates rectangle planeStrips inTurn regionStrips rowStrips windowStrips wholeRows wholePages wholeChannels wholeChannel wholeRowsOf wholeStrips rowsIn pictureSize unlimitedSize word channelStrips pageOf inside total samplesIn channelPicture window span picture bytes stored place eachSample bind
 turned-round = (refl, refl, refl)
 
+-- "of the strips only the places of its samples in the channel's joined strips"
+sample-places :
+    -- a rectangle across two strips
+    (flat (regionRanges (single u8 2 2 2) (1 ∷ 3 ∷ 0 ∷ 1 ∷ []) four (coordinate 0 0 0 0) (rect 1 0 1 2)) ≡ (2, 1) ∷ (0, 1) ∷ [])
+    -- a sample that two strips share
+    × (flat (regionRanges (single u16 1 2 2) (0 ∷ 3 ∷ 0 ∷ 1 ∷ []) four (coordinate 0 0 0 0) (rect 1 0 1 1)) ≡ (2, 1) ∷ (0, 1) ∷ [])
+unfolding regionRanges windowRanges sampleRanges spanRanges over flat regionFrom sceneThere coordinateThere coordinates rectangle planeStrips inTurn regionStrips rowStrips windowStrips wholeRows wholePages wholeChannels wholeChannel wholeRowsOf wholeStrips rowsIn pictureSize unlimitedSize word channelStrips pageOf inside total place bind
+sample-places = (refl, refl)
+
 -- ---- region
 
 region-order :
@@ -189,6 +201,39 @@ whole-row-test :
 unfolding wholeRows wholePages wholeChannels wholeChannel wholeRowsOf wholeStrips rowsIn
 whole-row-test = (refl, refl, refl, refl, refl, refl, refl, refl, refl, refl)
 
+-- so many planes in the dimensions, so many pages in the layout; one channel, one row of so many columns
+abbrev layered : ℕ → ℕ → ℕ → Description
+layered planes pages columns = described u8 1 planes 1 columns 1 pages 1
+
+-- "It runs over pages 0 to scenes × depth − 1": the layout's, however many planes the dimensions state. The second page holds three bytes in
+-- rows of two.
+layout-pages :
+    -- two planes, and a layout of one page: yes, since the second page isn't asked; nor is it missing
+    (wholeRows (layered 2 1 2) (0 ∷ 2 ∷ 0 ∷ 3 ∷ []) ≡ true)
+    × (wholeRows (layered 2 1 2) (0 ∷ 2 ∷ []) ≡ true)
+    -- one plane, and a layout of two pages: no, since the second is asked
+    × (wholeRows (layered 1 2 2) (0 ∷ 2 ∷ 0 ∷ 3 ∷ []) ≡ false)
+    × (wholeRows (layered 1 2 2) (0 ∷ 2 ∷ []) ≡ false)
+    -- "So region may accept where plane is oversized": by rows it is the strip outside the file that is refused, by plane's checks the size
+    × (region (layered 2 1 (2 ^ 33)) (0 ∷ 2 ^ 33 ∷ 0 ∷ 3 ∷ []) four (coordinate 0 0 0 0) (rect 0 0 1 1) ≡ refused (2 ∷ []))
+    × (region (layered 1 2 (2 ^ 33)) (0 ∷ 2 ^ 33 ∷ 0 ∷ 3 ∷ []) four (coordinate 0 0 0 0) (rect 0 0 1 1) ≡ refused (4 ∷ 2 ^ 33 ∷ 4294967296 ∷ []))
+unfolding region regionFrom sceneThere coordinateThere coordinates rectangle planeStrips inTurn regionStrips rowStrips windowStrips wholeRows wholePages wholeChannels wholeChannel wholeRowsOf wholeStrips rowsIn pictureSize unlimitedSize word channelStrips pageOf inside total samplesIn channelPicture window span picture bytes stored place eachSample bind
+layout-pages = (refl, refl, refl, refl, refl, refl)
+
+-- ---- lent memory
+
+-- "7, length needed"
+length-needed :
+    -- as many as there is room for; one more
+    (lend 2 2 ≡ accepted 2)
+    × (lend 3 2 ≡ refused (7 ∷ 3 ∷ []))
+    -- the largest length that 64 bits can say; one more, and any past that, are refused with the largest
+    × (lend (2 ^ 64 - 1) 0 ≡ refused (7 ∷ (2 ^ 64 - 1) ∷ []))
+    × (lend (2 ^ 64) (2 ^ 64 - 1) ≡ refused (7 ∷ (2 ^ 64 - 1) ∷ []))
+    × (lend (2 ^ 65) 0 ≡ refused (7 ∷ (2 ^ 64 - 1) ∷ []))
+unfolding lend bind
+length-needed = (refl, refl, refl, refl, refl)
+
 -- ---- channel lookup
 
 lookups :
@@ -200,6 +245,26 @@ lookups :
     × (lookup little four none 2 1 0 ≡ accepted (record { color = none; name = none }))
 unfolding lookup lend channelIn pointers partAt bind
 lookups = (refl, refl, refl, refl)
+
+-- a channel block at 0: the colour, which the first pointer at 12 points at; the second pointer without its last byte
+abbrev nineteen : List ℕ
+nineteen = 0 ∷ 0 ∷ 0 ∷ 0 ∷ 255 ∷ 128 ∷ 64 ∷ 1 ∷ 0 ∷ 0 ∷ 0 ∷ 0 ∷ 4 ∷ 0 ∷ 0 ∷ 0 ∷ 0 ∷ 0 ∷ 0 ∷ []
+
+second-pointer :
+    -- "If either can't be read, every channel lacks both": the first can, the second can't
+    (lookup little nineteen (some 0) 1 0 0 ≡ accepted (record { color = none; name = none }))
+    × (lookup little (take 16 nineteen) (some 0) 1 0 0 ≡ accepted (record { color = none; name = none }))
+    -- both can, and the second is 0: "A pointer ≤ 0 means none of that sort"
+    × (lookup little (nineteen ++ 0 ∷ []) (some 0) 1 0 0 ≡ accepted (record { color = some (255 ∷ 128 ∷ 64 ∷ []); name = none }))
+unfolding lookup lend channelIn pointers color colorAt name nameSpan i32At signed32 numberAt partAt bind
+second-pointer = (refl, refl, refl)
+
+-- "It needs all 4 bytes in the file; the first three are given": at 16 of 20 bytes, and at 17
+last-colour :
+    (lookup little (set (nineteen ++ 0 ∷ []) 12 16) (some 0) 1 0 0 ≡ accepted (record { color = some (0 ∷ 0 ∷ 0 ∷ []); name = none }))
+    × (lookup little (set (nineteen ++ 0 ∷ []) 12 17) (some 0) 1 0 0 ≡ accepted (record { color = none; name = none }))
+unfolding lookup lend channelIn pointers color colorAt name nameSpan i32At signed32 numberAt partAt bind
+last-colour = (refl, refl)
 
 -- ---- a page past those of the whole-row test
 

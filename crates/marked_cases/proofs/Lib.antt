@@ -1,4 +1,6 @@
 pub mod Table
 pub mod Listed
+pub mod Spare
 pub mod Second
+pub mod Third
 pub mod Handed

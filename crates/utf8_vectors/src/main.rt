@@ -1,5 +1,6 @@
 // Decodes the bytes of each line of standard input, and compares with the text that the line says. A line has the bytes, a
-// space and the text, both as vectors::text has bytes. tools/utf8_vectors.rs writes the list.
+// space and the text, both as vectors::text has bytes. tools/utf8_vectors.rs writes the list, and tools/wrong_lines.py begins it with lines
+// that are wrong on purpose.
 use libc::STDIN_FILENO;
 use libc::STDOUT_FILENO;
 use utf8::Decoded;

@@ -5,11 +5,11 @@ use mathlib.Core.Bool.{Bool, true, false, _&&_, and-false, false≢true}
 use mathlib.Core.List.{List, [], _∷_}
 use native.Mathlib.Numerals.{add-one}
 use native.Mathlib.Omega.{arith}
-use borrow.Author.Tests.{eq-eqb, ne-eqb, le-leb, lt-leb, eqb-true}
-use lib.Dec.{eqb}
+use borrow.Author.Tests.{eq-eqb, ne-eqb, le-leb, lt-leb, lt-ltb, eqb-true}
+use lib.Dec.{eqb, ltb}
 use lib.ListN.{length, take, drop, getD, length-drop, drop-of-length-le}
 use lib.Seq.{drop-cons, length-take-le, take-all}
-use Rattle.vectors.specs.Same.{same, kept, sameFront, sameThenKept}
+use Rattle.vectors.specs.Same.{same, kept, sameFront, sameThenKept, inAnswer, sameAnswer}
 
 -- ---- parts of a list
 
@@ -119,3 +119,22 @@ then-not v a b n e = rw e
 pub then-kept : (v : ℕ) (a b : List ℕ) (n : ℕ) → sameFront a b n ≡ true → sameThenKept v a b n ≡ kept v (rest n b)
 unfolding sameThenKept
 then-kept v a b n e = rw (e, rest-is n b)
+
+-- ---- the answer of a C function
+
+-- nothing is said
+pub answer-none : (said : List ℕ) (number : ℕ) (answer : List ℕ) (most : ℕ) → inAnswer said most ≡ 0 → sameAnswer said number answer most ≡ false
+unfolding sameAnswer
+answer-none said number answer most e = rw e
+
+-- another number was returned
+pub answer-other : (said : List ℕ) (number : ℕ) (answer : List ℕ) (most : ℕ) → (getD said 0 0 ≡ number → ⊥) → sameAnswer said number answer most ≡ false
+unfolding sameAnswer
+answer-other said number answer most e = rw (ne-eqb (getD said 0 0) number e, and-false (ltb 0 (inAnswer said most)))
+
+-- the number that is said: the words decide, n of them
+pub answer-words :
+    (said : List ℕ) (number : ℕ) (answer : List ℕ) (most n : ℕ)
+    → n ≡ inAnswer said most → 0 < n → getD said 0 0 ≡ number → sameAnswer said number answer most ≡ sameThenKept 0 (take n said) answer n
+unfolding sameAnswer
+answer-words said number answer most n k h e = rw (← k, lt-ltb 0 n h, eq-eqb (getD said 0 0) number e)

@@ -3,7 +3,6 @@ use libc::STDOUT_FILENO;
 ghost use mathlib.Core.Path.{_≡_};
 ghost use mathlib.Core.Bool.{cond};
 ghost use Prim.Native.Nat.{_≤_};
-ghost use lib.Dec.{eqb};
 ghost use Rattle.vectors.specs.Tallies.{oneMore};
 
 pub struct Tally {
@@ -48,14 +47,11 @@ impl Tally {
     }
 }
 
-// Writes how many of a list differ, and says whether none does.
-pub fn report(name: &[u8], t: Tally) -> bool
-    ensures { λ r. ⌜ r ≡ eqb (t .differ) 0 ⌝ }
-{
+// Writes how many lines of a list there are, and how many differ.
+pub fn report(name: &[u8], t: Tally) {
     io::write_all(STDOUT_FILENO, name);
     io::print_decimal(STDOUT_FILENO, t.cases as u64);
     io::write_all(STDOUT_FILENO, b", ");
     io::print_decimal(STDOUT_FILENO, t.differ as u64);
     io::write_all(STDOUT_FILENO, b" differ\n");
-    t.differ == 0
 }

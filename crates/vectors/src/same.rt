@@ -1,9 +1,9 @@
 // What is compared: words with words, words with bytes, and lent memory with what was in it before.
 ghost use mathlib.Core.Path.{_≡_};
 ghost use mathlib.Core.Bool.{true};
-ghost use Prim.Native.Nat.{_≤_};
+ghost use Prim.Native.Nat.{_≤_, min};
 ghost use lib.ListN.{length};
-ghost use Rattle.vectors.specs.Same.{same, sameFront, lentWord, lentByte, kept, sameThenKept};
+ghost use Rattle.vectors.specs.Same.{same, sameFront, lentByte, kept, sameThenKept, sameAnswer};
 
 // What lent words hold before a call.
 pub const WORD: usize = 0xa5a5_a5a5_a5a5_a5a5;
@@ -62,13 +62,13 @@ pub(crate) fn same_bytes(words: &[usize], bytes: &[u8]) -> bool
     true
 }
 
-// Whether every word is as it was.
-pub fn kept_words(a: &[usize]) -> bool
-    ensures { λ r. ⌜ r ≡ kept lentWord (now (a .entry)) ⌝ }
+// Whether every word is v: WORD where lent words are as they were.
+pub fn kept_words(a: &[usize], v: usize) -> bool
+    ensures { λ r. ⌜ r ≡ kept v (now (a .entry)) ⌝ }
 {
     let mut i = 0;
     while i < a.len() {
-        if a[i] != WORD {
+        if a[i] != v {
             return false;
         }
         i += 1;
@@ -102,4 +102,39 @@ pub fn same_then_kept(words: &[usize], bytes: &[u8], n: usize) -> bool
         return kept_bytes(&bytes[n..]);
     }
     false
+}
+
+// Whether the words are the first n of the others, and the others past them are v.
+pub fn words_then_kept(words: &[usize], others: &[usize], n: usize, v: usize) -> bool
+    ensures { λ r. ⌜ r ≡ sameThenKept v (now (words .entry)) (now (others .entry)) n ⌝ }
+{
+    if others.len() < n {
+        return false;
+    }
+    if same_words(words, &others[..n]) {
+        return kept_words(&others[n..], v);
+    }
+    false
+}
+
+// How many of so many numbers said are words of an answer that has `most`; the others are in lent memory.
+pub fn in_answer(said: usize, most: usize) -> usize
+    ensures { λ r. ⌜ r ≡ min said most ⌝ }
+{
+    if said < most { said } else { most }
+}
+
+// Whether a C function gave the first of the numbers said: they begin with the number that it returned, and are the words of its
+// answer, `most` at most, with zeros after them.
+pub fn same_answer(said: &[usize], number: usize, answer: &[usize], most: usize) -> bool
+    ensures { λ r. ⌜ r ≡ sameAnswer (now (said .entry)) number (now (answer .entry)) most ⌝ }
+{
+    let n = in_answer(said.len(), most);
+    if n == 0 {
+        return false;
+    }
+    if said[0] != number {
+        return false;
+    }
+    words_then_kept(&said[..n], answer, n, 0)
 }

@@ -67,6 +67,15 @@ fn chain(big: bool, reduced: usize) -> Vec<u8> {
     f.bytes
 }
 
+// So many directories of no entry: full pages that agree, of a kind that isn't taken. crates/lsm_long_chain makes the same files.
+fn bare(big: bool, n: usize) -> Vec<u8> {
+    let mut f = File::new(big, 8 + 6 * n);
+    for i in 1..n {
+        f.put(8 + 6 * i - 4, 8 + 6 * i as u64, 4);
+    }
+    f.bytes
+}
+
 // So many strips of one byte each, offsets and lengths of type 1.
 fn strips(big: bool, n: usize) -> Vec<u8> {
     let mut f = page(big, n as u64, 1, 128 + 2 * n, (1, n as u64, 128), (1, n as u64, 128 + n as u64));
@@ -111,6 +120,8 @@ pub fn files() -> Vec<(&'static str, Vec<u8>)> {
     for big in [false, true] {
         list.push(("1,000,000 directories", chain(big, 999_999)));
         list.push(("1,000,001 directories", chain(big, 1_000_000)));
+        list.push(("1,000,000 directories of no entry", bare(big, 1_000_000)));
+        list.push(("1,000,001 directories of no entry", bare(big, 1_000_001)));
         list.push(("100,000 strips", strips(big, 100_000)));
         list.push(("100,001 strips", strips(big, 100_001)));
         list.push(("4 GiB exactly, not asked whole", rows(big, 4096)));

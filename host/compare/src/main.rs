@@ -9,6 +9,7 @@ mod pictures;
 mod port;
 mod random;
 mod record;
+mod rules;
 #[cfg_attr(feature = "library", allow(dead_code))]
 mod standin;
 mod walk;

@@ -1,8 +1,10 @@
 // Writes a list of planes and rectangles of small accepted files with the original's answers, in the form of tools/record/README.md.
 use crate::check::{place, rectangle, reserved, LIMIT, RESERVE};
 use crate::make;
+use crate::past;
 use crate::random::Random;
 use crate::record::{line, refusal, List};
+use crate::rules;
 use crate::walk::walk;
 use original::probe::{self, Memory, Opened, PANIC};
 
@@ -47,7 +49,44 @@ fn sort(o: &Opened, rect: [usize; 4]) -> String {
     format!("{empty}right {}, below {}", end(x, w, o.words[6]), end(y, h, o.words[5]))
 }
 
+// 0, height, width, number of bytes and the bytes
+fn read(shape: [usize; 2], bytes: &[u8]) -> Vec<usize> {
+    let [height, width] = shape;
+    [0, height, width, bytes.len()].into_iter().chain(bytes.iter().map(|&b| b as usize)).collect()
+}
+
+// The original's answer; past the pages of the whole-row test, document 01's (past.rs).
+fn answer(o: &Opened, file: &[u8], at: [usize; 4], rect: Option<[usize; 4]>) -> Vec<usize> {
+    let answer = match rect {
+        Some(rect) if o.whole_rows() && past::decides(&o.words, at, rect) => {
+            let found = past::region(&o.words, &o.table, file, at, rect).answer();
+            return found.map(|bytes| read([rect[3], rect[2]], &bytes)).unwrap_or_else(|row| refusal(&row).to_vec());
+        }
+        Some(rect) => o.region(at, rect),
+        None => o.plane(at),
+    };
+    assert!(answer.as_ref().map_or_else(|r| r.row[0], |_| 0) != PANIC, "the original panicked");
+    answer.map(|p| read([p.height, p.width], &p.bytes)).unwrap_or_else(|r| refusal(&r.row).to_vec())
+}
+
 impl List {
+    // One call, with room for 16 bytes.
+    fn call(&mut self, file: &[u8], o: &Opened, at: [usize; 4], rect: Option<[usize; 4]>) {
+        let letter = if rect.is_some() { 'r' } else { 'p' };
+        let said = answer(o, file, at, rect);
+        self.count(format!("{letter} {}", said[0]));
+        let asked = [&[16][..], &at, rect.as_ref().map_or(&[], |r| r)].concat();
+        self.push(letter, &[asked, said].concat(), file);
+    }
+
+    // `q ROOM WORDS TABLE SCENE T C Z ANSWER:FILE`, or `h` with a rectangle: a call with what is handed in, the table after its length.
+    fn handed(&mut self, words: &[usize], table: &[usize], file: &[u8], at: [usize; 4], rect: Option<[usize; 4]>, said: Vec<usize>) {
+        let letter = if rect.is_some() { 'h' } else { 'q' };
+        self.count(format!("{letter} {}", said[0]));
+        let asked = [&[16][..], words, &[table.len()], table, &at, rect.as_ref().map_or(&[], |r| r)].concat();
+        self.push(letter, &[asked, said].concat(), file);
+    }
+
     // `p ROOM SCENE T C Z ANSWER:FILE` or `r ROOM SCENE T C Z X Y W H ANSWER:FILE`, where what the call shows is not there often enough.
     fn picture(&mut self, file: &[u8], o: &Opened, at: [usize; 4], rect: Option<[usize; 4]>, often: usize) {
         let size = reserved(o, rect);
@@ -105,9 +144,25 @@ impl List {
     }
 }
 
-// So many lines, each for something that is not there often enough yet.
+// The calls of rules.rs and the settled ones; then so many lines, each for something that is not there often enough yet.
 pub fn record(list: &mut List, seed: u64, count: usize) {
     let mut memory = Memory::new();
+    for (file, at, rect) in rules::calls() {
+        let o = probe::open(&mut memory, &file).unwrap_or_else(|r| panic!("a file of rules.rs: {}", r.text));
+        list.call(&file, &o, at, rect);
+    }
+    for (words, table, at, rect) in rules::handed() {
+        let o = probe::handed(&mut memory, &rules::FOUR, &words, &table).expect("what the original can be given");
+        list.handed(&words, &table, &rules::FOUR, at, rect, answer(&o, &rules::FOUR, at, rect));
+    }
+    // no strips per page is 6; the original isn't given it (docs/DIFFERENCES.md)
+    list.handed(&rules::words(0, [1, 1, 1, 1, 1, 1, 0]), &[0, 1], &rules::FOUR, [0; 4], None, vec![6, 0, 0, 0, 0]);
+    for s in past::settled() {
+        let shape = [s.rect[3], s.rect[2]];
+        let wanted = s.wanted.map(|bytes| read(shape, &bytes)).unwrap_or_else(|row| refusal(&row).to_vec());
+        list.handed(&s.words, &s.table, &s.file, [0, 0, 0, s.z], Some(s.rect), wanted);
+    }
+    let count = list.written() + count;
     let mut case = 0;
     while list.written() < count {
         case += 1;

@@ -4,8 +4,9 @@ use crate::large;
 use crate::make;
 use crate::pictures;
 use crate::random::Random;
+use crate::rules;
 use crate::walk::{number, walk, Walk};
-use original::probe::{self, Memory, Opened};
+use original::probe::{self, Channel, Memory, Opened};
 use std::collections::BTreeMap;
 
 // A line: a letter, numbers in hexadecimal, a colon and bytes. `*NNBB` is NN bytes BB.
@@ -105,6 +106,57 @@ impl List {
         }
     }
 
+    // A file that stands for a rule: its answer, and every channel's where there is a channel block.
+    fn rule(&mut self, file: &[u8], w: &Walk) {
+        self.files += 1;
+        match probe::open(&mut self.memory, file) {
+            Err(r) => {
+                self.push('o', &[&[64], refusal(&r.row)].concat(), file);
+                self.count(format!("o {}", r.row[0]));
+            }
+            Ok(mut o) => {
+                complete(&mut o, w, file);
+                self.push('o', &[&[64, 0, w.visited, o.table.len()][..], &o.words, &o.table].concat(), file);
+                self.count("o 0".to_string());
+                if o.words[15] == 1 {
+                    for (i, c) in o.channels.iter().enumerate() {
+                        self.found(file, i, c, 64);
+                    }
+                }
+            }
+        }
+    }
+
+    // `w PLACE VALUE CHANNEL ROOM ANSWER:FILE`: a lookup with another word in the description that opening gives.
+    fn described(&mut self) {
+        let (file, list) = rules::described();
+        let words = probe::open(&mut self.memory, &file).unwrap_or_else(|r| panic!("a file of rules.rs: {}", r.text)).words;
+        for (place, value, is_description) in list {
+            let mut other = words;
+            other[place] = value;
+            // the second channel only where their number is another
+            for channel in 0..1 + (place == 3) as usize {
+                let said = if !is_description {
+                    vec![2]
+                } else {
+                    let o = probe::handed(&mut self.memory, &file, &other, &[]).expect("a description that the original can be given");
+                    o.channels.get(channel).map_or(vec![6, 0, 0, channel, 0], told)
+                };
+                self.count(format!("w {}", said[0]));
+                self.push('w', &[vec![place, value, channel, 64], said].concat(), &file);
+            }
+        }
+        // a colour's place that passes 64 bits, where the original panics: no colour (docs/DIFFERENCES.md)
+        self.count("w 0".to_string());
+        self.push('w', &[3, usize::MAX, 1 << 62, 64, 0, 0, 0, 0, 0, 0, 0], &file);
+    }
+
+    // `n CHANNEL ROOM 0 ..` of a channel that is there
+    fn found(&mut self, file: &[u8], channel: usize, c: &Channel, room: usize) {
+        self.push('n', &[vec![channel, room], told(c)].concat(), file);
+        self.count("n 0".to_string());
+    }
+
     fn channels(&mut self, file: &[u8], o: &Opened) {
         let some = o.channels.iter().any(|c| c.colour.is_some() || c.name.is_some());
         if some {
@@ -115,12 +167,8 @@ impl List {
                     self.push('n', &[i, room, 7, name.len()], file);
                     self.count("n 7".to_string());
                 }
-                let [r, g, b] = c.colour.unwrap_or([0; 3]).map(usize::from);
                 let room = name.len() + self.random.of(&[0, 0, 1, 9]);
-                let mut n = vec![i, room, 0, c.colour.is_some() as usize, r, g, b, c.name.is_some() as usize, name.len()];
-                n.extend(name.iter().map(|&b| b as usize));
-                self.push('n', &n, file);
-                self.count("n 0".to_string());
+                self.found(file, i, c, room);
             }
         }
         if (some && self.random.chance(30)) || (!some && self.random.chance(8)) {
@@ -135,6 +183,15 @@ impl List {
             self.count("n 0".to_string());
         }
     }
+}
+
+// 0, whether there is a colour and its bytes, whether there is a name, its length and its bytes
+fn told(c: &Channel) -> Vec<usize> {
+    let name = c.name.as_deref().unwrap_or("").as_bytes();
+    let [r, g, b] = c.colour.unwrap_or([0; 3]).map(usize::from);
+    let mut n = vec![0, c.colour.is_some() as usize, r, g, b, c.name.is_some() as usize, name.len()];
+    n.extend(name.iter().map(|&b| b as usize));
+    n
 }
 
 fn complete(o: &mut Opened, w: &Walk, file: &[u8]) {
@@ -316,7 +373,8 @@ impl List {
     }
 }
 
-// Three lists: `open`, whose lines are short; `long`, a few files with names about 1,024 bytes; `pictures`, planes and rectangles.
+// Four lists: `open`, whose lines are short; `long`, a few files with names about 1,024 bytes; `rules`, the files of rules.rs;
+// `pictures`, planes and rectangles.
 pub fn write(folder: &str, seed: u64, count: usize) {
     let mut memory = Memory::new();
     let mut short = list(seed, 0);
@@ -384,6 +442,13 @@ pub fn write(folder: &str, seed: u64, count: usize) {
         }
     }
     long.save(folder, "long");
+
+    let mut rule = list(seed, 3);
+    for f in rules::files() {
+        rule.rule(&f, &walk(&f));
+    }
+    rule.described();
+    rule.save(folder, "rules");
 
     let mut calls = list(seed, 2);
     pictures::record(&mut calls, seed, count);

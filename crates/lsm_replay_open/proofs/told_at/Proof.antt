@@ -29,8 +29,24 @@ slice-aggregate-agrees-2 c = search needs
 agrees-requires : tie.Need-agrees-requires
 agrees-requires c κs = search needs
 
+array-share-prefix-numbers-2 : tie.Need-array-share-prefix-numbers-2
+array-share-prefix-numbers-2 c = search needs
+
+slice-aggregate-agrees-in-c : tie.Need-slice-aggregate-agrees-in-c
+slice-aggregate-agrees-in-c c = search needs
+
+array-share-prefix-bytes-2 : tie.Need-array-share-prefix-bytes-2
+array-share-prefix-bytes-2 c = search needs
+
+slice-aggregate-agrees-in-c-2 : tie.Need-slice-aggregate-agrees-in-c-2
+slice-aggregate-agrees-in-c-2 c = search needs
+
+agrees-in-c-requires : tie.Need-agrees-in-c-requires
+agrees-in-c-requires c κs = search needs
+
 returns : tie.Need-returns
-returns c = (omega (arith, c .before .before .before .before .before .line-at .ensures .1 .1 .1 .1 .1 .0 (omega arith)), omega arith)
+returns c =
+    (omega (arith, c .before .before .before .before .before .before .before .before .line-at .ensures .1 .1 .1 .1 .1 .0 (omega arith)), omega arith)
 
 pub told-at-spec : {M : Type 1} → statement M
 told-at-spec =
@@ -44,4 +60,9 @@ told-at-spec =
     array-share-prefix-bytes
     slice-aggregate-agrees-2
     agrees-requires
+    array-share-prefix-numbers-2
+    slice-aggregate-agrees-in-c
+    array-share-prefix-bytes-2
+    slice-aggregate-agrees-in-c-2
+    agrees-in-c-requires
     returns)

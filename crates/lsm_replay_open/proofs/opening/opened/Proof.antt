@@ -1,11 +1,11 @@
 -- `lsm_replay_open::opening::opened` meets its contract: what is owed says something of `true` alone, and past the two tests it holds. The
--- same tests are what the five parts of `said` and `table` need, which are bounded by 3, 20 and the table's words. Assumes nothing.
+-- same tests are what the parts of `said` need, which are bounded by 3 and 20. Assumes nothing.
 use native.Mathlib.Omega.{arith}
 use borrow.Author.Needs.{needs}
 use Rattle.vectors.proofs.Compared.{taken}
+use Rattle.lsm_format.proofs.Apart.{no-case}
 use Rattle.lsm_replay_open.proofs.opening.opened.Statement.{statement}
 use Rattle.lsm_replay_open.proofs.opening.opened.Tie as tie
-use Rattle.lsm_format.proofs.Apart.{no-case}
 
 returns : tie.Need-returns
 returns c = (λ e. no-case cc, λ e. no-case cc)
@@ -46,41 +46,20 @@ same-words-requires-2 c κs = search needs
 returns-4 : tie.Need-returns-4
 returns-4 c = search needs
 
-sub-same-words-2 : tie.Need-sub-same-words-2
-sub-same-words-2 c = search needs
+sub-words-then-kept : tie.Need-sub-words-then-kept
+sub-words-then-kept c = search needs
 
-part-same-words-start-2 : tie.Need-part-same-words-start-2
-part-same-words-start-2 c = search needs
+part-words-then-kept-start : tie.Need-part-words-then-kept-start
+part-words-then-kept-start c = search needs
 
-part-same-words-end-2 : tie.Need-part-same-words-end-2
-part-same-words-end-2 c = search needs
+part-words-then-kept-end : tie.Need-part-words-then-kept-end
+part-words-then-kept-end c = search needs
 
-slice-aggregate-same-words-4 : tie.Need-slice-aggregate-same-words-4
-slice-aggregate-same-words-4 c = taken _ _ (omega arith)
-
-same-words-requires-3 : tie.Need-same-words-requires-3
-same-words-requires-3 c κs = search needs
+words-then-kept-requires : tie.Need-words-then-kept-requires
+words-then-kept-requires c κs = search needs
 
 returns-5 : tie.Need-returns-5
 returns-5 c = search needs
-
-mul-kept-words : tie.Need-mul-kept-words
-mul-kept-words c = search needs
-
-sub-kept-words : tie.Need-sub-kept-words
-sub-kept-words c = search needs
-
-part-kept-words-start : tie.Need-part-kept-words-start
-part-kept-words-start c = search needs
-
-part-kept-words-end : tie.Need-part-kept-words-end
-part-kept-words-end c = search needs
-
-kept-words-requires : tie.Need-kept-words-requires
-kept-words-requires c κs = search needs
-
-returns-6 : tie.Need-returns-6
-returns-6 c = search needs
 
 pub opened-spec : {M : Type 1} → statement M
 opened-spec =
@@ -99,15 +78,8 @@ opened-spec =
     slice-aggregate-same-words-3
     same-words-requires-2
     returns-4
-    sub-same-words-2
-    part-same-words-start-2
-    part-same-words-end-2
-    slice-aggregate-same-words-4
-    same-words-requires-3
-    returns-5
-    mul-kept-words
-    sub-kept-words
-    part-kept-words-start
-    part-kept-words-end
-    kept-words-requires
-    returns-6)
+    sub-words-then-kept
+    part-words-then-kept-start
+    part-words-then-kept-end
+    words-then-kept-requires
+    returns-5)

@@ -1,18 +1,17 @@
--- `vectors::same::kept_words` meets its contract: the list is as it was if it is from i on. Assumes nothing.
+-- `vectors::same::kept_words` meets its contract: every word is v if it is so from i on. Assumes nothing.
 use Prim.Native.Nat.{_-_}
 use native.Mathlib.Omega.{arith}
 use borrow.Author.Needs.{needs}
 use lib.ListN.{length}
-use Rattle.vectors.specs.Same.{lentWord}
 use Rattle.vectors.proofs.Compared.{Kept, kept-first, kept-more, kept-not, kept-all}
 use Rattle.vectors.proofs.same.kept_words.Statement.{statement}
 use Rattle.vectors.proofs.same.kept_words.Tie as tie
 
 abbrev Inv-loop : tie.InvT-loop
-Inv-loop a i₀ i = Kept lentWord a i
+Inv-loop a v i₀ i = Kept v a i
 
 abbrev μ-loop : tie.MeasureT-loop
-μ-loop a i₀ i = length a - i
+μ-loop a v i₀ i = length a - i
 
 loop-holds : tie.Need-loop-holds Inv-loop μ-loop
 loop-holds c = kept-first _ _
