@@ -81,7 +81,9 @@ fn tell_of(name: &[u8], bytes: usize, file: &mut [u8])
 }
 
 // Both files in the memory, whose length is known from its type.
-fn tell_both(file: &mut [u8; ROOM]) {
+fn tell_both(file: &mut [u8; ROOM])
+    ensures { λ _. ⌜ length (now (file .exit)) ≡ length (now (file .entry)) ⌝ }
+{
     tell_of(b"1000000 directories: ", ROOM - DIRECTORY, file);
     tell_of(b"1000001 directories: ", ROOM, file);
 }

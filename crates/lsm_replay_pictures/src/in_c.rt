@@ -1,11 +1,8 @@
 // The lines asked of the C functions: the number that is returned, every word of `answer`, and lent memory.
 use lsm_c::pictures::lsm_plane;
 use lsm_c::pictures::lsm_region;
-use lsm_reader::open::OpenAnswer;
-use lsm_reader::open::open_file;
 use lsm_words::answers::PICTURE_WORDS;
 use lsm_words::description::DESCRIPTION_WORDS;
-use lsm_words::description::description_words;
 use vectors::same::BYTE;
 use vectors::same::WORD;
 use vectors::same::in_answer;
@@ -18,10 +15,8 @@ ghost use lib.ListN.{length};
 ghost use Rattle.vectors.specs.Same.{sameAnswer};
 ghost use Rattle.lsm_replay_pictures.specs.Code.{saidWords};
 
-// The largest sample buffer that a line lends, and the words of the table.
+// The largest sample buffer that a line lends.
 const ROOM: usize = 1024;
-
-const WORDS: usize = 256;
 
 // How many words of an answer a line says at most: 0, the height, the width and the number of bytes, or a refusal's five.
 fn said_words(number: usize) -> usize
@@ -103,7 +98,7 @@ fn region_agrees(
 }
 
 // Whether what is said is the answer to what the letter stands for: `p` and `q` are planes, `r` and `h` rectangles. Another letter differs.
-fn answered(
+pub fn answered(
     letter: u8,
     said: &[usize],
     file: &[u8],
@@ -117,41 +112,6 @@ fn answered(
         b'p' | b'q' => plane_agrees(said, file, description, table, out),
         b'r' | b'h' => region_agrees(said, file, description, table, out),
         _ => false,
-    }
-}
-
-// Whether the description and the table that opening the line's file gives lead the C function to the line's answer. A file that isn't
-// opened leads to none.
-pub fn agrees(letter: u8, said: &[usize], file: &[u8]) -> bool
-    ensures { λ r. ⌜ (r ≡ true → 1 ≤ length (now (said .entry))) ⌝ }
-{
-    if said.len() < 1 {
-        return false;
-    }
-    let room = said[0];
-    if ROOM < room {
-        return false;
-    }
-    let mut table = [0usize; WORDS];
-    match open_file(file, &mut table) {
-        OpenAnswer::Opened(o) => {
-            let d = o.description;
-            let words = o.words;
-            if WORDS < words {
-                return false;
-            }
-            let description = description_words(d);
-            let mut out = [BYTE; ROOM];
-            answered(
-                letter,
-                &said[1..],
-                file,
-                &description,
-                &table[..words],
-                &mut out[..room],
-            )
-        }
-        OpenAnswer::Refused(_) => false,
     }
 }
 

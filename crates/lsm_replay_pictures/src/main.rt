@@ -2,6 +2,8 @@
 // answer with the Rust's, sample by sample, and the lent memory past an answer with what was in it. A line is as vectors::text has it,
 // with the letter `p` or `r`, or `q` or `h` for the same in C with a description and a table that the line hands in. The list begins with lines
 // that are wrong on purpose (tools/wrong_lines.py).
+use crate::picture::Both;
+use crate::picture::answers;
 use libc::STDIN_FILENO;
 use vectors::report::Tally;
 use vectors::report::report;
@@ -13,13 +15,16 @@ ghost use lib.ListN.{length};
 mod in_c;
 mod picture;
 
-// Whether the C function's answer is the line's.
-fn agrees_in_c(letter: u8, said: &[usize], file: &[u8]) -> bool
-    ensures { λ r. ⌜ (r ≡ true → 1 ≤ length (now (said .entry))) ⌝ }
+// Whether the function's answer is the line's, and the C function's. What a line hands in itself is asked of the C function alone.
+fn asked(letter: u8, said: &[usize], file: &[u8]) -> Both
+    ensures { λ r. ⌜ (r .agrees ≡ true → 1 ≤ length (now (said .entry))) × (r .«in_c» ≡ true → 1 ≤ length (now (said .entry))) ⌝ }
 {
     match letter {
-        b'q' | b'h' => in_c::handed(letter, said, file),
-        _ => in_c::agrees(letter, said, file),
+        b'q' | b'h' => Both {
+            agrees: false,
+            in_c: in_c::handed(letter, said, file),
+        },
+        _ => answers(letter, said, file),
     }
 }
 
@@ -40,10 +45,11 @@ fn told_at(text: &[u8], at: usize) -> Told
     let line = vectors::text::line_at(text, at, &mut numbers, &mut bytes);
     let count = line.count;
     let len = line.len;
+    let told = asked(line.kind, &numbers[..count], &bytes[..len]);
     Told {
         letter: line.kind,
-        agrees: picture::agrees(line.kind, &numbers[..count], &bytes[..len]),
-        in_c: agrees_in_c(line.kind, &numbers[..count], &bytes[..len]),
+        agrees: told.agrees,
+        in_c: told.in_c,
         next: line.next,
     }
 }

@@ -1,4 +1,5 @@
 // A line: the sample buffer's room in bytes, the coordinates, for a rectangle its four numbers, and the answer.
+use crate::in_c;
 use lsm_description::Description;
 use lsm_format::error::Refusal;
 use lsm_format::types::PixelRect;
@@ -8,6 +9,7 @@ use lsm_region::Picture;
 use lsm_region::PictureAnswer;
 use lsm_region::plane;
 use lsm_region::region;
+use lsm_words::description::description_words;
 use vectors::same::BYTE;
 use vectors::same::kept_bytes;
 use vectors::same::same_front;
@@ -128,17 +130,27 @@ fn answered(
     false
 }
 
-// Whether the description and the table that opening the line's file gives lead to the line's answer. A file that isn't opened leads
+// Whether the function's answer is the line's, and the C function's.
+pub struct Both {
+    pub agrees: bool,
+    pub in_c: bool,
+}
+
+// Whether the description and the table that opening the line's file gives lead both to the line's answer. A file that isn't opened leads
 // to none.
-pub fn agrees(letter: u8, said: &[usize], file: &[u8]) -> bool
-    ensures { λ r. ⌜ (r ≡ true → 1 ≤ length (now (said .entry))) ⌝ }
+pub fn answers(letter: u8, said: &[usize], file: &[u8]) -> Both
+    ensures { λ r. ⌜ (r .agrees ≡ true → 1 ≤ length (now (said .entry))) × (r .«in_c» ≡ true → 1 ≤ length (now (said .entry))) ⌝ }
 {
+    let neither = Both {
+        agrees: false,
+        in_c: false,
+    };
     if said.len() < 1 {
-        return false;
+        return neither;
     }
     let room = said[0];
     if ROOM < room {
-        return false;
+        return neither;
     }
     let mut table = [0usize; WORDS];
     match open_file(file, &mut table) {
@@ -146,18 +158,29 @@ pub fn agrees(letter: u8, said: &[usize], file: &[u8]) -> bool
             let d = o.description;
             let words = o.words;
             if WORDS < words {
-                return false;
+                return neither;
             }
+            let description = description_words(d);
             let mut out = [BYTE; ROOM];
-            answered(
+            let agrees = answered(
                 letter,
                 &said[1..],
                 file,
                 d,
                 &table[..words],
                 &mut out[..room],
-            )
+            );
+            let mut c_out = [BYTE; ROOM];
+            let in_c = in_c::answered(
+                letter,
+                &said[1..],
+                file,
+                &description,
+                &table[..words],
+                &mut c_out[..room],
+            );
+            Both { agrees, in_c }
         }
-        OpenAnswer::Refused(_) => false,
+        OpenAnswer::Refused(_) => neither,
     }
 }

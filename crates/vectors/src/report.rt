@@ -47,7 +47,7 @@ impl Tally {
     }
 }
 
-// Writes how many lines of a list there are, and how many differ.
+// Writes how many lines of a list there are, and how many differ. No contract can say what is written.
 pub fn report(name: &[u8], t: Tally) {
     io::write_all(STDOUT_FILENO, name);
     io::print_decimal(STDOUT_FILENO, t.cases as u64);

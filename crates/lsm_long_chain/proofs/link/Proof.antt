@@ -1,5 +1,5 @@
--- `lsm_long_chain::link` meets its contract. The loop's invariant: the memory has the length that it had, and the place stays 6 below the largest
--- number; the measure is what is left of the memory. Assumes nothing.
+-- `lsm_long_chain::link` meets its contract. The loop's invariant: the memory has the length that it had, and the place passes its end by 8
+-- bytes at most; the measure is what is left of the memory. Assumes nothing.
 use borrow.Author.Needs.{needs}
 use Prim.Native.Nat.{_+_, _-_, _≤_}
 use mathlib.Core.Path.{_≡_}

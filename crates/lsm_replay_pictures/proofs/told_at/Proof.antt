@@ -17,36 +17,21 @@ line-at-requires c κs = search needs
 array-share-prefix-numbers : tie.Need-array-share-prefix-numbers
 array-share-prefix-numbers c = search needs
 
-slice-aggregate-agrees : tie.Need-slice-aggregate-agrees
-slice-aggregate-agrees c = search needs
+slice-aggregate-asked : tie.Need-slice-aggregate-asked
+slice-aggregate-asked c = search needs
 
 array-share-prefix-bytes : tie.Need-array-share-prefix-bytes
 array-share-prefix-bytes c = search needs
 
-slice-aggregate-agrees-2 : tie.Need-slice-aggregate-agrees-2
-slice-aggregate-agrees-2 c = search needs
+slice-aggregate-asked-2 : tie.Need-slice-aggregate-asked-2
+slice-aggregate-asked-2 c = search needs
 
-agrees-requires : tie.Need-agrees-requires
-agrees-requires c κs = search needs
-
-array-share-prefix-numbers-2 : tie.Need-array-share-prefix-numbers-2
-array-share-prefix-numbers-2 c = search needs
-
-slice-aggregate-agrees-in-c : tie.Need-slice-aggregate-agrees-in-c
-slice-aggregate-agrees-in-c c = search needs
-
-array-share-prefix-bytes-2 : tie.Need-array-share-prefix-bytes-2
-array-share-prefix-bytes-2 c = search needs
-
-slice-aggregate-agrees-in-c-2 : tie.Need-slice-aggregate-agrees-in-c-2
-slice-aggregate-agrees-in-c-2 c = search needs
-
-agrees-in-c-requires : tie.Need-agrees-in-c-requires
-agrees-in-c-requires c κs = search needs
+asked-requires : tie.Need-asked-requires
+asked-requires c κs = search needs
 
 returns : tie.Need-returns
-returns c =
-    (omega (arith, c .before .before .before .before .before .before .before .before .line-at .ensures .1 .1 .1 .1 .1 .0 (omega arith)), omega arith)
+returns c = 
+    (omega (arith, c .before .before .before .before .before .line-at .ensures .1 .1 .1 .1 .1 .0 (omega arith)), omega arith)
 
 pub told-at-spec : {M : Type 1} → statement M
 told-at-spec =
@@ -56,13 +41,8 @@ told-at-spec =
     slice-aggregate-line-at-2
     line-at-requires
     array-share-prefix-numbers
-    slice-aggregate-agrees
+    slice-aggregate-asked
     array-share-prefix-bytes
-    slice-aggregate-agrees-2
-    agrees-requires
-    array-share-prefix-numbers-2
-    slice-aggregate-agrees-in-c
-    array-share-prefix-bytes-2
-    slice-aggregate-agrees-in-c-2
-    agrees-in-c-requires
+    slice-aggregate-asked-2
+    asked-requires
     returns)
