@@ -30,7 +30,7 @@ asked-requires : tie.Need-asked-requires
 asked-requires c κs = search needs
 
 returns : tie.Need-returns
-returns c = 
+returns c =
     (omega (arith, c .before .before .before .before .before .line-at .ensures .1 .1 .1 .1 .1 .0 (omega arith)), omega arith)
 
 pub told-at-spec : {M : Type 1} → statement M
