@@ -14,7 +14,7 @@ const FORMAT: u64 = 339;
 const SUBFILE: u64 = 254;
 const CZ: u64 = 34412;
 
-// The CZ block's words from the third on.
+// Words of the CZ block, counted from 0.
 const X: usize = 2;
 const Y: usize = 3;
 const Z: usize = 4;
@@ -314,7 +314,7 @@ fn orders(list: &mut Vec<Vec<u8>>) {
     }
 }
 
-// A file that ends with a channel block, which has so many bytes before its place in the file is known.
+// A file that ends with this channel block, or with as much as there is of one.
 fn with_channel_block(block: &[u8]) -> Vec<u8> {
     let mut f = small();
     f.cz[1] = 112;
