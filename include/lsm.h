@@ -40,7 +40,7 @@ extern "C" {
  *   1        kind of sample: 0 unsigned of 8 bits, 1 unsigned of 16 bits, 2 signed of 16 bits, 3 float of 32 bits
  *   2 to 6   time points, channels, depth, height, width
  *   7        scenes
- *   8        pages of a scene
+ *   8        pages of a time point
  *   9        strips of a channel on a page
  *   10       pixel size: 0 none, 1 stated
  *   11, 12   its X and Y in micrometres, as the bits of a 32-bit float
@@ -48,13 +48,17 @@ extern "C" {
  *   14       the step in micrometres, as the bits of a 32-bit float
  *   15       channel block: 0 none, 1 there
  *   16       its place in the file
+ *   17       time points of a scene, by which pages are counted
+ *
+ * The picture at scene, t, c, z stands on page (scene x word 17 + t) x word 8 + z of the table, counted from 0. Word 2 is what t is held
+ * to; lsm_open gives it and word 17 alike.
  *
  * Words of what is absent are 0 in a description that lsm_open gives, and aren't looked at in one that is handed in: words 11 to 14
  * without a pixel size, word 14 without a Z step, word 16 without a channel block. A description may be kept, changed, and handed in
  * with any file. Words with an order, kind or choice outside its numbers, or with a float above 2^32 - 1 or a NaN's bits, are no
  * description: the call refuses them with 2 before it looks at anything else.
  */
-#define LSM_DESCRIPTION_WORDS 17
+#define LSM_DESCRIPTION_WORDS 18
 
 /* The words of an answer: of lsm_open, of lsm_channel, of lsm_plane and lsm_region. */
 #define LSM_OPEN_WORDS (3 + LSM_DESCRIPTION_WORDS)

@@ -65,10 +65,11 @@ def many_strips(count):
     return head.ljust(offsets, b'\0') + arrays + o.pack('IIIIIII', 0x0400494C, 28, 1, count, 1, 1, 1)
 
 
-def scenes(order, voxels, positions, tiles, colors, names, sample=(16, 1)):
-    """Pictures of 2 by 1 samples (bits, format), a strip to a channel, a page to a scene; a CZ block of 272 bytes and a channel block."""
+def scenes(order, voxels, positions, tiles, colors, names, sample=(16, 1), times=1, planes=1):
+    """Pictures of 2 by 1 samples (bits, format), a strip to a channel, a page to each plane of a time point of a scene; a CZ block of 272
+    bytes and a channel block."""
     o = Order(order)
-    pages, channels = positions * tiles, len(names)
+    pages, channels = positions * tiles * times * planes, len(names)
     at = {}
     place = 8
     for page in range(pages):
@@ -88,7 +89,7 @@ def scenes(order, voxels, positions, tiles, colors, names, sample=(16, 1)):
             entries.append(o.entry(34412, 1, 272, place=cz))
         body += o.pack('H', len(entries)) + b''.join(entries) + o.pack('I', at.get(page + 1, 0))
     body += o.pack('I' * channels, *[8] * channels) + o.pack('I' * channels, *[4] * channels)
-    info = o.pack('IIIIIII', 0x0400494C, 272, 2, 1, 1, channels, 1).ljust(40, b'\0') + o.pack('ddd', *voxels)
+    info = o.pack('IIIIIII', 0x0400494C, 272, 2, 1, planes, channels, times).ljust(40, b'\0') + o.pack('ddd', *voxels)
     info = info.ljust(108, b'\0') + o.pack('I', block)
     info = info.ljust(264, b'\0') + o.pack('II', positions, tiles)
     table = b''.join(bytes(c) + b'\0' for c in colors)
@@ -102,7 +103,8 @@ file('g-big-endian', g('M'), 'accepted', 'dims 1 1 1 1 2', 'kind 0', 'pixel - - 
 file('empty', b'', 'refused 1')
 file('magic', g().replace(b'\x2a', b'\x2b', 1), 'refused 1')
 file('size-27', g(size=27), 'refused 2')
-file('time-2', g(t=2), 'refused 3')
+file('time-2', g(t=2), 'refused 2')
+file('time-0', g(t=0), 'accepted', 'dims 1 1 1 1 2', 'kind 0', 'pixel - - -', 'scenes 1', 'image', 'channels 1', '- -', 'notes 0')
 file('strips-2049', many_strips(2049), 'refused 7 4098')
 file('strips-2048', many_strips(2048), 'accepted', 'dims 1 1 1 2048 1', 'kind 0', 'pixel - - -', 'scenes 1', 'image', 'channels 1', '- -', 'notes 0')
 file(
@@ -131,6 +133,16 @@ file(
     'float', scenes('I', (4e-8, float('inf'), float('inf')), 1, 1, [(1, 0, 0)] * 2, [b'c', b'd'], sample=(32, 3)),
     'accepted', 'dims 1 2 1 1 2', 'kind 3', f'pixel {bits(4e-8)} 7f800000 -', 'scenes 1', 'image', 'channels 2', '010000 =63', '010000 =64',
     'notes 0',
+)
+# weekly scans of two planes at two positions: 5 weeks, in 20 pages
+file(
+    'weeks', scenes('I', (1e-6, 1e-6, 2e-6), 2, 1, [(0, 255, 0), (255, 0, 0)], [b'calcite', b'clay'], times=5, planes=2),
+    'accepted', 'dims 5 2 2 1 2', 'kind 1', f'pixel {bits(1e-6)} {bits(1e-6)} {bits(2e-6)}', 'scenes 2', 'image #1', 'image #2', 'channels 2',
+    '00ff00 =63616c63697465', 'ff0000 =636c6179', 'notes 0',
+)
+# a year of weeks has more strips than the lister's table
+file(
+    'year', scenes('M', (1e-6, 1e-6, 2e-6), 1, 1, [(0, 255, 0)] * 20, [b''] * 20, times=52, planes=2), f'refused 7 {2 * 52 * 2 * 20}',
 )
 # a printout that passes 65,536 bytes
 file(

@@ -14,12 +14,12 @@ import sys
 
 # For each letter of a list, how many numbers say what is asked; the answer follows (tools/record/README.md, host/README.md).
 ASKED = {
-    'lsm_replay': {'b': 3, 's': 4, 'r': 13, 'm': 4, 'l': 3, 'e': 3, 'p': 5, 'c': 3, 'z': 3},
+    'lsm_replay': {'b': 3, 's': 4, 'r': 13, 'm': 4, 'l': 4, 'e': 4, 'p': 7, 'c': 3, 'z': 3},
     'lsm_replay_open': {'o': 1, 'n': 2, 'w': 4},
-    'lsm_replay_pictures': {'p': 5, 'r': 9, 'q': 23, 'h': 27},
+    'lsm_replay_pictures': {'p': 5, 'r': 9, 'q': 24, 'h': 28},
 }
 # Where a line says the length of a table that is handed in; its words are asked too.
-TABLE = {'q': 19, 'h': 19}
+TABLE = {'q': 20, 'h': 20}
 NUMBER, BYTE = 'bad0bad0bad', 'ff'
 
 

@@ -83,6 +83,9 @@ fn kept<T>(call: impl FnOnce() -> Result<T, Error>) -> Result<T, Refused> {
     }
 }
 
+// The words of a description, as include/lsm.h counts them.
+pub const WORDS: usize = 18;
+
 pub struct Channel {
     pub colour: Option<[u8; 3]>,
     pub name: Option<String>,
@@ -90,8 +93,9 @@ pub struct Channel {
 
 pub struct Opened {
     reader: LsmReader,
-    // The description; word 14 is 0 where there is a note, since the original keeps the note's text only.
-    pub words: [usize; 17],
+    // The description; word 14 is 0 where there is a note, since the original keeps the note's text only. Where `times` says so, the reader
+    // has all pages in one scene, and a coordinate is put into its terms (`asked`).
+    pub words: [usize; WORDS],
     pub note: Option<String>,
     pub table: Vec<usize>,
     pub channels: Vec<Channel>,
@@ -132,7 +136,7 @@ fn opened(reader: LsmReader) -> Opened {
     assert!(first.dims == reader.dims && first.dtype == reader.dtype && first.samples == 1);
     assert_eq!(first.channels.len(), first.dims.c);
 
-    let mut words = [0; 17];
+    let mut words = [0; WORDS];
     words[0] = matches!(reader.endian, Endian::Big) as usize;
     words[1] = match first.dtype {
         DType::U8 => 0,
@@ -145,6 +149,9 @@ fn opened(reader: LsmReader) -> Opened {
     words[7] = reader.layout.scene_count();
     words[8] = reader.layout.expected_pages().unwrap() / words[7];
     words[9] = reader.strips_per_channel;
+    // The original takes no series: a T of 0 counts as 1.
+    assert_eq!(d.t, 1);
+    words[17] = d.t;
     if let Some(size) = first.px_size_um {
         words[10] = 1;
         words[11] = size.x.to_bits() as usize;
@@ -177,36 +184,85 @@ fn opened(reader: LsmReader) -> Opened {
     Opened { words, note, table, channels, reader }
 }
 
+// Whether the original refuses a file since it states several time points.
+pub fn is_series(found: &Result<Opened, Refused>) -> bool {
+    found.as_ref().is_err_and(|r| r.row[0] == 3 && r.text.contains("multi-timepoint"))
+}
+
+// What opening a series should answer: its twin has the T of the CZ block as 1 and the Z as T x Z, so the same pages in the same order
+// (src/twin.rs). What the twin is refused with is the series' refusal. Otherwise the description is the twin's but for T and Z, and later
+// calls are asked over the series' own bytes. `t` and `z` are the series' own, 1 where the file has 0.
+pub fn open_series(memory: &mut Memory, file: &[u8], twin: &[u8], [t, z]: [usize; 2]) -> Result<Opened, Refused> {
+    let o = open(memory, twin)?;
+    assert_eq!(Some(o.words[4]), t.checked_mul(z), "the twin's depth");
+    let mut words = o.words;
+    words[2] = t;
+    words[4] = z;
+    words[8] = z;
+    words[17] = t;
+    let (note, table) = (o.note.clone(), o.table.clone());
+    // The twin's file goes away before the series takes its place in memory.
+    drop(o);
+    let series = handed(memory, file, &words, &table).expect("a reader of what the twin gave");
+    Ok(Opened { note, ..series })
+}
+
 // More channels than this are not looked up in a handed-in description: the original makes a list of them all.
 pub const CHANNELS: usize = 4096;
 
+// The number of a picture's page, (scene x T + t) x depth + z, or of all pages. Both are taken exactly; what passes 128 bits is the
+// largest number, which passes 64 bits too.
+fn page(words: &[usize; WORDS], [scene, t, z]: [usize; 3]) -> u128 {
+    (scene as u128 * words[17] as u128 + t as u128).saturating_mul(words[8] as u128).saturating_add(z as u128)
+}
+
+// Whether a T counts for the pages: the layout's isn't 1, or a t above 0 is let through. The original's layout has no T, so its page
+// number is right only where neither is so.
+fn times(words: &[usize; WORDS]) -> bool {
+    words[17] != 1 || 1 < words[2]
+}
+
+// The dimensions and the layout of the original's reader, and how many pages the whole-row test covers: `None` where they pass 64 bits.
+// Where a T counts, all pages go into one scene: a page is then a plane of it, in the same order.
+fn laid_out(words: &[usize; WORDS]) -> Option<(Dims5, LsmLayout, Option<usize>)> {
+    let mut dims = Dims5 { t: words[2], c: words[3], z: words[4], y: words[5], x: words[6] };
+    if !times(words) {
+        let scenes = i32::try_from(words[7]).ok().filter(|&n| 0 < n)?;
+        let layout = LsmLayout::new(scenes, 1, words[8]).ok()?;
+        return Some((dims, layout, layout.expected_pages()));
+    }
+    dims.t = 1;
+    dims.z = usize::MAX;
+    let pages = usize::try_from(page(words, [words[7], 0, 0])).ok();
+    let layout = LsmLayout::new(1, 1, pages.unwrap_or(usize::MAX)).ok()?;
+    Some((dims, layout, pages))
+}
+
+// The pages that are wholly in the table. Where a page's length overflows, or is 0, there is none.
+fn pages_of(table: &[usize], strips: usize, channels: usize) -> Vec<PageStrips> {
+    let Some(n) = strips.checked_mul(channels).and_then(|n| n.checked_mul(2)).filter(|&n| n != 0) else {
+        return Vec::new();
+    };
+    let numbers = |page: &[usize], first: usize| page.iter().skip(first).step_by(2).map(|&n| n as u64).collect();
+    table.chunks_exact(n).map(|page| PageStrips { offsets: numbers(page, 0), bytes: numbers(page, 1) }).collect()
+}
+
 // The original's reader over any file, with a description and a strip table that are handed in. `None` where it can't be made so:
-// no strips in a page, no scene, more than 2^31 - 1 scenes, a file that can't be mapped. The words must be a description.
-pub fn handed(memory: &mut Memory, file: &[u8], words: &[usize; 17], table: &[usize]) -> Option<Opened> {
-    let scenes = i32::try_from(words[7]).ok().filter(|&n| 0 < n)?;
-    let layout = LsmLayout::new(scenes, 1, words[8]).ok()?;
-    let dims = Dims5 { t: words[2], c: words[3], z: words[4], y: words[5], x: words[6] };
+// no strips in a page, a file that can't be mapped; where no T counts, no scene or more than 2^31 - 1. The words must be a description.
+pub fn handed(memory: &mut Memory, file: &[u8], words: &[usize; WORDS], table: &[usize]) -> Option<Opened> {
+    let (dims, layout, pages) = laid_out(words)?;
     let per_channel = words[9];
     if (per_channel == 0 && dims.c != 0) || file.is_empty() {
         return None;
     }
-    // Pages that are wholly in the table. Where their length overflows there is none.
-    let mut real_pages = Vec::new();
-    if let Some(n) = per_channel.checked_mul(dims.c).and_then(|n| n.checked_mul(2)).filter(|&n| n != 0) {
-        for page in table.chunks_exact(n) {
-            real_pages.push(PageStrips {
-                offsets: page.iter().step_by(2).map(|&n| n as u64).collect(),
-                bytes: page.iter().skip(1).step_by(2).map(|&n| n as u64).collect(),
-            });
-        }
-    }
+    let real_pages = pages_of(table, per_channel, dims.c);
     let dtype = [DType::U8, DType::U16, DType::I16, DType::F32][words[1]];
     let endian = if words[0] == 1 { Endian::Big } else { Endian::Little };
     // The whole-row test over the pages that there should be. Where the rows overflow, the original would panic: no.
     let sums = |page: &PageStrips, row: usize| {
         page.bytes.chunks(per_channel).all(|c| c.iter().try_fold(0usize, |n, &b| n.checked_add(b as usize / row)).is_some())
     };
-    let native_region = match (dims.x.checked_mul(dtype.size_bytes()), layout.expected_pages()) {
+    let native_region = match (dims.x.checked_mul(dtype.size_bytes()), pages) {
         (Some(row), Some(pages)) => {
             0 < row
                 && pages <= real_pages.len()
@@ -253,20 +309,48 @@ impl Opened {
         self.reader.supports_region()
     }
 
-    pub fn plane(&self, at: [usize; 4]) -> Result<Picture, Refused> {
+    // A coordinate in the terms of the reader. Where all pages are in one scene, what the original checks first is checked here: the scene,
+    // then t, c and z. The page becomes a plane of that scene, so that the original checks all the rest in its own order. No table has
+    // page 2^64 - 2 or a later one, so these are alike; 2^64 - 1 would not be a plane of the scene.
+    fn asked(&self, at: [usize; 4]) -> Result<[usize; 4], Refused> {
         let [scene, t, c, z] = at;
-        kept(|| self.reader.plane(scene, t, c, z)).map(picture)
+        let w = &self.words;
+        if !times(w) {
+            return Ok(at);
+        }
+        if w[7] <= scene {
+            return Err(refused(Error::SceneOutOfRange { scene, count: w[7] }));
+        }
+        if w[2] <= t || w[3] <= c || w[4] <= z {
+            return Err(refused(Error::OutOfRange { scene, t, c, z }));
+        }
+        Ok([0, 0, c, page(w, [scene, t, z]).min(usize::MAX as u128 - 1) as usize])
+    }
+
+    // The refusal of a page carries the caller's own coordinate.
+    fn answered(&self, at: [usize; 4], answer: Result<Plane, Refused>) -> Result<Picture, Refused> {
+        answer.map(picture).map_err(|mut r| {
+            if times(&self.words) && r.row[0] == 6 {
+                r.row[1..].copy_from_slice(&at);
+            }
+            r
+        })
+    }
+
+    pub fn plane(&self, at: [usize; 4]) -> Result<Picture, Refused> {
+        let [scene, t, c, z] = self.asked(at)?;
+        self.answered(at, kept(|| self.reader.plane(scene, t, c, z)))
     }
 
     pub fn region(&self, at: [usize; 4], rect: [usize; 4]) -> Result<Picture, Refused> {
-        let [scene, t, c, z] = at;
+        let [scene, t, c, z] = self.asked(at)?;
         let [x, y, w, h] = rect;
-        kept(|| self.reader.region(scene, t, c, z, PixelRect { x, y, w, h })).map(picture)
+        self.answered(at, kept(|| self.reader.region(scene, t, c, z, PixelRect { x, y, w, h })))
     }
 
     // How long a picture takes, or a rectangle of it.
     pub fn timed(&self, at: [usize; 4], rect: Option<[usize; 4]>) -> Duration {
-        let [scene, t, c, z] = at;
+        let [scene, t, c, z] = self.asked(at).unwrap_or_else(|r| panic!("{}", r.text));
         let start = Instant::now();
         let answer = match rect {
             None => self.reader.plane(scene, t, c, z),

@@ -121,33 +121,54 @@ fn empty(text: &mut String) {
 }
 
 // Counts as the u32 of the same bits. No pages expected is Decode in the Rust's reader, and no page OutOfRange.
-// l P M Z, then 0 and the scenes or 2; e P M Z, then 0 and the pages or 2; p P M Z SCENE Z, then 0 and the page or 6
+// l P M T Z, then 0 and the scenes or 2; e P M T Z, then 0 and the pages or 2; p P M T Z SCENE t z, then 0 and the page or 6
+//
+// The Rust's layout has no T. (scene x T + t) x Z + z is scene x (T x Z) + (t x Z + z), so a layout of T time points is judged as one of
+// T x Z planes, at plane t x Z + z. For T 1 that is the Rust's own case. Where T x Z or t x Z + z passes 64 bits, nothing is asked.
 fn layouts(random: &mut Random, text: &mut String) {
     let counts = [0, 1, 3, 65_536, i32::MAX, -1, i32::MIN];
     let depths = [0, 1, 2, 3, 4, 5, 6, 1 << 32, 1 << 33, (1 << 33) + 3, MAX / 2, MAX - 1, MAX];
     for &p in &counts {
         for &m in &counts {
-            let z = random.of(&depths);
-            let given = [p as u32 as u64, m as u32 as u64, z as u64];
-            let new = LsmLayout::new(p, m, z).map(|l| l.scene_count() as u64);
-            text.push_str(&Line::new('l').all(&given).all(&answer(new)).end());
-            let Ok(layout) = LsmLayout::new(p, m, z) else { continue };
-            // where the file has scenes enough, a depth at which the pages just fit or just overflow
-            let most = MAX / layout.scene_count();
-            for z in [z, most, most.saturating_add(1)] {
-                let layout = LsmLayout::new(p, m, z).unwrap();
-                let row = layout.expected_pages().map_or(vec![2], |n| vec![0, n as u64]);
-                text.push_str(&Line::new('e').all(&[given[0], given[1], z as u64]).all(&row).end());
-                for _ in 0..2 {
-                    let scenes = layout.scene_count();
-                    let scene = random.of(&[0, 1, scenes / 2, scenes - 1, scenes - 1, scenes, MAX]);
-                    let room = MAX.saturating_sub(scene.saturating_mul(z));
-                    let plane = random.of(&[0, z.saturating_sub(1), room, room.saturating_add(1), MAX]);
-                    let row = layout.page_index(scene, plane).map_or(vec![6], |n| vec![0, n as u64]);
-                    let line = Line::new('p').all(&[given[0], given[1], z as u64, scene as u64, plane as u64]).all(&row);
-                    text.push_str(&line.end());
+            for times in [1, random.of(&[0, 2, 2, 3, 40, 65_536, 1 << 33, MAX])] {
+                let z = random.of(&depths);
+                let new = LsmLayout::new(p, m, z).map(|l| l.scene_count() as u64);
+                let scenes = new.as_ref().map_or(0, |&n| n as usize);
+                let given = [p as u32 as u64, m as u32 as u64, times as u64, z as u64];
+                text.push_str(&Line::new('l').all(&given).all(&answer(new)).end());
+                if scenes == 0 {
+                    continue;
+                }
+                // depths at which the pages just fit and just overflow, where there are scenes and time points enough
+                let most = MAX / scenes.saturating_mul(times).max(1);
+                for z in [z, most, most.saturating_add(1)] {
+                    pages(random, text, [p, m], [times, z]);
                 }
             }
         }
+    }
+    // scenes x T pass 64 bits, and with a depth of 0 are no pages all the same
+    for times in [4, 1 << 33, MAX] {
+        pages(random, text, [i32::MAX, i32::MAX], [times, 0]);
+    }
+}
+
+// How many pages a layout has, and a few of them.
+fn pages(random: &mut Random, text: &mut String, [p, m]: [i32; 2], [times, z]: [usize; 2]) {
+    let Some(depth) = times.checked_mul(z) else { return };
+    let layout = LsmLayout::new(p, m, depth).unwrap();
+    let given = [p as u32 as u64, m as u32 as u64, times as u64, z as u64];
+    let row = layout.expected_pages().map_or(vec![2], |n| vec![0, n as u64]);
+    text.push_str(&Line::new('e').all(&given).all(&row).end());
+    let scenes = layout.scene_count();
+    for _ in 0..2 {
+        let scene = random.of(&[0, 1, scenes / 2, scenes - 1, scenes - 1, scenes, MAX]);
+        // the layout itself holds no t to its T
+        let t = if times == 1 { 0 } else { random.of(&[0, 1, times / 2, times.saturating_sub(1), times]) };
+        let room = MAX.saturating_sub(scene.saturating_mul(depth)).saturating_sub(t.saturating_mul(z));
+        let plane = random.of(&[0, z.saturating_sub(1), room, room.saturating_add(1), MAX]);
+        let Some(whole) = t.checked_mul(z).and_then(|n| n.checked_add(plane)) else { continue };
+        let row = layout.page_index(scene, whole).map_or(vec![6], |n| vec![0, n as u64]);
+        text.push_str(&Line::new('p').all(&given).all(&[scene as u64, t as u64, plane as u64]).all(&row).end());
     }
 }

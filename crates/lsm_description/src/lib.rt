@@ -118,9 +118,6 @@ fn check_agreement(page: Directory, info: CzInfo) -> Check
     if info.dim_channels as usize != channels {
         return Check::Refused(Refusal::Decode);
     }
-    if 1 < info.dim_time {
-        return Check::Refused(Refusal::Unsupported);
-    }
     if is_interleaved(channels, page.planar_configuration == 2) {
         return Check::Refused(Refusal::Unsupported);
     }
@@ -133,11 +130,13 @@ fn check_agreement(page: Directory, info: CzInfo) -> Check
     Check::Accepted
 }
 
-// The scenes of the file, where it has as many pages as they ask for.
+// The scenes of the file and their time points, where it has as many pages as they ask for.
 fn layout_for(info: CzInfo, pages: usize) -> LayoutAnswer
     ensures { λ r. ⌜ layoutAnswerOf r ≡ layoutFor (infoOf info) pages ⌝ }
 {
-    match LsmLayout::new(info.dim_p, info.dim_m, at_least_one(info.dim_z)) {
+    let times = at_least_one(info.dim_time);
+    let planes = at_least_one(info.dim_z);
+    match LsmLayout::new(info.dim_p, info.dim_m, times, planes) {
         LayoutAnswer::Layout(layout) => match layout.expected_pages() {
             ExpectedPages::Pages(expected) => {
                 if pages != expected {
@@ -177,7 +176,7 @@ pub fn describe(
     let channels = at_least_one(page.samples);
     let offsets = page.offsets;
     let dims = Dims5 {
-        t: 1,
+        t: at_least_one(info.dim_time),
         c: channels,
         z: at_least_one(info.dim_z),
         y: page.height as usize,

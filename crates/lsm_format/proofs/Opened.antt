@@ -1,5 +1,5 @@
 -- What holds of every file that opens: its table holds as many pages as its description has. Assumes nothing.
-use Prim.Native.Nat.{ℕ, _*_, _/_, _%_, _<_, max}
+use Prim.Native.Nat.{ℕ, _*_, _/_, _%_, _<_}
 use native.Mathlib.Nat.{div-add-mod', mul-comm}
 use native.Mathlib.Omega.{arith}
 use mathlib.Core.Bool.{true, not, _&&_}
@@ -17,14 +17,16 @@ use Rattle.lsm_format.specs.Sizes.{Kind}
 use Rattle.lsm_format.specs.Scenes.{Layout, layout, pages, pagesExpected}
 use Rattle.lsm_format.specs.CzInfo.{CzInfo}
 use Rattle.lsm_format.specs.Directory.{Directory}
-use Rattle.lsm_format.specs.Open.{Walk, Description, Opened, channels, agreement, layoutFor, describe, describeWalk, tableWords, read}
+use Rattle.lsm_format.specs.Open.{Walk, Description, Opened, channels, agreement, timePoints, planes, layoutFor, describe, describeWalk, tableWords, read}
 use Rattle.lsm_format.specs.Picture.{stripsPerPage}
 use Rattle.lsm_format.proofs.Words.{word-some}
 use Rattle.lsm_format.proofs.Accepting.{Accepting, accepting-bind, accepting-then, accepting-need, accepting-given, both-hold}
 use Rattle.lsm_format.proofs.Pages.{Even, walk-even}
 
--- The table has the words of every page of the description, whose planes are as many as each scene's pages; no page is without a strip.
+-- The table has the words of every page of the description, whose time points are the layout's, and whose planes are as many as the pages of a
+-- time point; no page is without a strip.
 pub record Fits (d : Description) (table : List ℕ) : Type 0 where
+  pub long : d .dims .t ≡ d .layout .t
   pub deep : d .dims .z ≡ d .layout .depth
   pub strips : 0 < stripsPerPage d
   pub words : length table ≡ pages (d .layout) * stripsPerPage d * 2
@@ -49,18 +51,18 @@ agreement-shares : (p : Directory) (i : CzInfo) →
     Accepting (λ (u : Unit {0}). shares (length (p .offsets)) (channels p)) (agreement p i)
 unfolding agreement shares
 agreement-shares p i =
-    accepting-then _ _ _ (λ _. accepting-then _ _ _ (λ _. accepting-then _ _ _ (λ _. accepting-then _ _ _ (λ _. accepting-need decode _))))
+    accepting-then _ _ _ (λ _. accepting-then _ _ _ (λ _. accepting-then _ _ _ (λ _. accepting-need decode _)))
 
 -- "layout, page count"
-layout-depth : (p m : ℤ) (depth : ℕ) → Accepting (λ (l : Layout). l .depth ≡ depth) (layout p m depth)
+layout-sizes : (p m : ℤ) (t depth : ℕ) → Accepting (λ (l : Layout). (l .t ≡ t) × (l .depth ≡ depth)) (layout p m t depth)
 unfolding layout Accepting
-layout-depth p m depth = accepting-then _ _ _ (λ n. refl)
+layout-sizes p m t depth = accepting-then _ _ _ (λ n. (refl, refl))
 
 layout-pages : (i : CzInfo) (n : ℕ) →
-    Accepting (λ (l : Layout). (l .depth ≡ max 1 (i .dimZ)) × (n ≡ pages l)) (layoutFor i n)
+    Accepting (λ (l : Layout). ((l .t ≡ timePoints i) × (l .depth ≡ planes i)) × (n ≡ pages l)) (layoutFor i n)
 unfolding layoutFor pagesExpected Accepting
 layout-pages i n =
-    accepting-bind _ _ _ _ (layout-depth (i .dimP) (i .dimM) (max 1 (i .dimZ))) (λ l e.
+    accepting-bind _ _ _ _ (layout-sizes (i .dimP) (i .dimM) (timePoints i) (planes i)) (λ l e.
     accepting-bind _ _ _ _ (accepting-given decode (word (pages l))) (λ expected w.
     accepting-bind _ _ _ _ (accepting-need decode (eqb n expected)) (λ _ t. (e, eqb-true _ _ t ∙ word-some _ _ w .0))))
 
@@ -71,7 +73,7 @@ describe-fits o k p n i table e =
     accepting-bind _ _ _ _ (agreement-shares p i) (λ _ s.
     accepting-bind _ _ _ _ (layout-pages i n) (λ l h.
     let all = shared (length (p .offsets)) (channels p) s in
-    record { deep = sym (h .0); strips = rw all (shares-some (length (p .offsets)) (channels p) s); words = rw (all, ← h .1) e }))
+    record { long = sym (h .0 .0); deep = sym (h .0 .1); strips = rw all (shares-some (length (p .offsets)) (channels p) s); words = rw (all, ← h .1) e }))
 
 walk-fits : (o : Order) (f : List ℕ) (w : Walk) → Even (w .first) (w .pages) →
     Accepting (λ (d : Description). Fits d (tableWords (w .pages))) (describeWalk o f w)

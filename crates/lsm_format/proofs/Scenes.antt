@@ -25,21 +25,21 @@ count-natural (pos n) t = (tt, refl)
 count-natural (negsuc n) t = no-case cc
 
 -- the layout by its counts: P first, then M
-module _ (p m : ℤ) (depth : ℕ) where
-  pub layout-negative : count p ≡ refused decode → refused decode ≡ layout p m depth
+module _ (p m : ℤ) (t depth : ℕ) where
+  pub layout-negative : count p ≡ refused decode → refused decode ≡ layout p m t depth
   unfolding layout scenes bind
   layout-negative h = rw (h, layout, scenes, bind)
 
-  pub layout-negative-tiles : (a : ℕ) → count p ≡ accepted a → count m ≡ refused decode → refused decode ≡ layout p m depth
+  pub layout-negative-tiles : (a : ℕ) → count p ≡ accepted a → count m ≡ refused decode → refused decode ≡ layout p m t depth
   unfolding layout scenes bind
   layout-negative-tiles a h k = rw (h, k, layout, scenes, bind)
 
   pub layout-is : (a b n : ℕ) → count p ≡ accepted a → count m ≡ accepted b → n ≡ max 1 (a * b) →
-      accepted (record { scenes = n; depth = depth }) ≡ layout p m depth
+      accepted (record { scenes = n; t = t; depth = depth }) ≡ layout p m t depth
   unfolding layout scenes bind
   layout-is a b n h k e = rw (h, k, e, layout, scenes, bind)
 
--- the page of a picture: no such scene; a product or a sum that overflows; the page
+-- the page of a picture: no such scene; pages before it, or a page, whose number overflows; the page
 module _ (l : Layout) (co : Coordinate) where
   pub page-outside : l .scenes ≤ co .scene → none ≡ pageOf l co
   unfolding pageOf
@@ -49,10 +49,11 @@ module _ (l : Layout) (co : Coordinate) where
   unfolding pageOf
   page-inside h = rw (lt-ltb (co .scene) (l .scenes) h, pageOf)
 
-  pub page-over : co .scene < l .scenes → word (co .scene * l .depth) ≡ none → none ≡ pageOf l co
+  pub page-over : co .scene < l .scenes → word ((co .scene * l .t + co .t) * l .depth) ≡ none → none ≡ pageOf l co
   page-over h e = rw (page-inside h) (sym (word-over (omega (arith, word-none _ e))))
 
-  pub page-at : co .scene < l .scenes → (first : ℕ) → word (co .scene * l .depth) ≡ some first → word (first + co .z) ≡ pageOf l co
+  pub page-at : co .scene < l .scenes → (first : ℕ) → word ((co .scene * l .t + co .t) * l .depth) ≡ some first →
+      word (first + co .z) ≡ pageOf l co
   page-at h first e = rw (page-inside h, word-some _ _ e .0)
 
   -- a page that there is

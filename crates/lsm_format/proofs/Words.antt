@@ -1,6 +1,6 @@
 -- Laws of `word`: a number that fits is itself, one that does not is none, and what a checked sum or product tells of the
 -- number that it reckoned. Assumes nothing.
-use Prim.Native.Nat.{ℕ, _*_, _/_, _^_, _-_, _<_, _≤_}
+use Prim.Native.Nat.{ℕ, _+_, _*_, _/_, _^_, _-_, _<_, _≤_}
 use native.Mathlib.Nat.{le-div-iff-mul-le, div-lt-iff-lt-mul, le-mul-of-pos-right, mul-le-mul}
 use native.Mathlib.Omega.{arith}
 use mathlib.Core.Bool.{Bool, true, false}
@@ -42,6 +42,14 @@ none-by n false t e = ltb-false n (2 ^ 64) t
 
 pub word-none : (n : ℕ) → word n ≡ none → 2 ^ 64 ≤ n
 word-none n e = none-by n (ltb n (2 ^ 64)) refl e
+
+-- ---- what overflows stays so
+
+pub sum-none : (a b : ℕ) → word a ≡ none → word (a + b) ≡ none
+sum-none a b e = word-over (omega (arith, word-none a e))
+
+pub product-none : (a b : ℕ) → 0 < b → word a ≡ none → word (a * b) ≡ none
+product-none a b h e = word-over (omega (arith, word-none a e, le-mul-of-pos-right a h))
 
 -- ---- what the code's answer tells
 

@@ -142,19 +142,26 @@ sampleKind format bits =
 abbrev pub channels : Directory → ℕ
 channels p = max 1 (p .scalars samplesPerPixel)
 
--- The first full page against the CZ block: "XY, channels, T above 1, several interleaved channels, strips per channel".
+-- The first full page against the CZ block: "XY, channels, [..] several interleaved channels, strips per channel". "T above 1 is no longer
+-- Unsupported, so that step leaves the order of checks".
 unfoldable pub agreement : Directory → CzInfo → Result (Unit {0})
 agreement p i =
     bind (need decode (eqb (i .dimX) (p .scalars imageWidth) && eqb (i .dimY) (p .scalars imageLength))) (λ _.
     bind (need decode (eqb (i .dimChannels) (channels p))) (λ _.
-    bind (need unsupported (leb (i .dimTime) 1)) (λ _.
     bind (need unsupported (leb (channels p) 1 || planar p)) (λ _.
-    need decode (not (eqb (length (p .offsets)) 0) && eqb (length (p .offsets) % channels p) 0)))))
+    need decode (not (eqb (length (p .offsets)) 0) && eqb (length (p .offsets) % channels p) 0))))
 
--- "layout, page count". Z of 0 counts as 1.
+-- "T (0 counts as 1)", and so does Z.
+abbrev pub timePoints : CzInfo → ℕ
+timePoints i = max 1 (i .dimTime)
+
+abbrev pub planes : CzInfo → ℕ
+planes i = max 1 (i .dimZ)
+
+-- "layout, page count"
 unfoldable pub layoutFor : CzInfo → ℕ → Result Layout
 layoutFor i pages =
-    bind (layout (i .dimP) (i .dimM) (max 1 (i .dimZ))) (λ l.
+    bind (layout (i .dimP) (i .dimM) (timePoints i) (planes i)) (λ l.
     bind (pagesExpected l) (λ expected. bind (need decode (eqb pages expected)) (λ _. accepted l)))
 
 unfoldable pub describe : Order → Kind → Directory → ℕ → CzInfo → Result Description
@@ -164,7 +171,7 @@ describe o k p pages i =
     accepted (record {
       order = o;
       kind = k;
-      dims = record { t = 1; c = channels p; z = max 1 (i .dimZ); y = p .scalars imageLength; x = p .scalars imageWidth };
+      dims = record { t = timePoints i; c = channels p; z = planes i; y = p .scalars imageLength; x = p .scalars imageWidth };
       layout = l;
       stripsPerChannel = length (p .offsets) / channels p;
       calibration = i .calibration;

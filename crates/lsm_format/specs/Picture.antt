@@ -198,8 +198,8 @@ unfoldable pub wholePages : Description → List ℕ → ℕ → Bool
 wholePages d table zero = true
 wholePages d table (suc n) = wholePages d table n && wholePage d table n
 
--- "The whole-row test [..] runs over pages 0 to scenes × depth − 1 and all channels; a page missing from the table, or an overflow,
--- means no"; "a row of 0 bytes means no".
+-- "The whole-row test covers all of them", the pages expected, "and all channels; a page missing from the table, or an overflow, means no";
+-- "a row of 0 bytes means no".
 unfoldable pub wholeRows : Description → List ℕ → Bool
 wholeRows d table =
     not (eqb (rowBytes d) 0)

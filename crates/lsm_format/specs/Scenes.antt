@@ -17,25 +17,26 @@ count (negsuc n) = refused decode
 unfoldable pub scenes : ℤ → ℤ → Result ℕ
 scenes p m = bind (count p) (λ positions. bind (count m) (λ tiles. accepted (max 1 (positions * tiles))))
 
--- How many scenes a file has, and how many pages each of them: its depth, since T is 1.
+-- How many scenes a file has, how many time points each of them, and how many pages a time point: its depth. "The layout record gains T."
 pub record Layout : Type 0 where
   pub scenes : ℕ
+  pub t : ℕ
   pub depth : ℕ
 
-unfoldable pub layout : ℤ → ℤ → ℕ → Result Layout
-layout p m depth = bind (scenes p m) (λ n. accepted (record { scenes = n; depth = depth }))
+unfoldable pub layout : ℤ → ℤ → ℕ → ℕ → Result Layout
+layout p m t depth = bind (scenes p m) (λ n. accepted (record { scenes = n; t = t; depth = depth }))
 
--- "scenes × depth", without overflow: the pages of all scenes.
+-- "scenes × T [..] × depth", without overflow: the pages of all scenes.
 abbrev pub pages : Layout → ℕ
-pages l = l .scenes * l .depth
+pages l = l .scenes * l .t * l .depth
 
--- "Pages expected are scenes × depth; overflow is Decode."
+-- "Pages expected are scenes × T [..] × depth"; "overflow is Decode."
 unfoldable pub pagesExpected : Layout → Result ℕ
 pagesExpected l = given decode (word (pages l))
 
--- "Page of a picture: scene × depth + z", without overflow.
+-- "a picture's page is (scene × T + t) × depth + z", without overflow.
 abbrev pub pageNumber : Layout → Coordinate → ℕ
-pageNumber l co = co .scene * l .depth + co .z
+pageNumber l co = (co .scene * l .t + co .t) * l .depth + co .z
 
 -- There is none for a scene that is not there, and none where the number overflows.
 unfoldable pub pageOf : Layout → Coordinate → Option ℕ

@@ -88,12 +88,20 @@ module _ (table rest : List ℕ) where
 -- ---- the pages of an opened file
 
 module _ (d : Description) (table rest : List ℕ) (fits : Fits d table) where
+  -- t, c and z are each below their dimension
+  abbrev Below : Coordinate → Type 0
+  Below co = (co .t < d .dims .t) × (co .c < d .dims .c) × (co .z < d .dims .z)
+
   -- a page of a scene, and a channel's strips of a page
-  page-less : (co : Coordinate) (page : ℕ) → co .z < d .dims .z → pageOf (d .layout) co ≡ some page → page < pages (d .layout)
+  page-less : (co : Coordinate) (page : ℕ) → Below co → pageOf (d .layout) co ≡ some page → page < pages (d .layout)
   page-less co page h e =
-      let p = page-some (d .layout) co page e in
-      let below : suc (co .scene) * d .layout .depth ≤ pages (d .layout) = mul-le-mul-right (d .layout .depth) (p .0) in
-      omega (arith, suc-mul (co .scene) (d .layout .depth), fits .deep, p .1)
+      let l = d .layout in
+      let p = page-some l co page e in
+      let before = co .scene * l .t + co .t in
+      let scene : suc (co .scene) * l .t ≤ l .scenes * l .t = mul-le-mul-right (l .t) (p .0) in
+      let point : suc before ≤ l .scenes * l .t = omega (arith, suc-mul (co .scene) (l .t), fits .long, h .0) in
+      let below : suc before * l .depth ≤ pages l = mul-le-mul-right (l .depth) point in
+      omega (arith, suc-mul before (l .depth), fits .deep, h .2, p .1)
 
   page-has : (page : ℕ) → page < pages (d .layout) → (page + 1) * stripsPerPage d * 2 ≤ length table
   page-has page h =
@@ -140,18 +148,18 @@ module _ (d : Description) (table rest : List ℕ) (fits : Fits d table) where
 
   -- ---- the strips that plane and region go to, at a coordinate that there is
 
-  module _ (len : ℕ) (co : Coordinate) (channel : co .c < d .dims .c) (depth : co .z < d .dims .z) where
+  module _ (len : ℕ) (co : Coordinate) (below : Below co) where
     channel-strips-own : channelStrips d (length (table ++ rest)) co ≡ channelStrips d (length table) co
     unfolding channelStrips
     channel-strips-own =
         bind-accepting _ _ refl (accepting-given (noPicture co) (pageOf (d .layout) co)) (λ page e.
-        bind-law _ (ap (need (noPicture co)) (has-page-own page (page-less co page depth e))) (λ _. refl))
+        bind-law _ (ap (need (noPicture co)) (has-page-own page (page-less co page below e))) (λ _. refl))
 
     channel-strips-has : Accepting (λ (s : Strips). Has table rest (s .first) (s .count)) (channelStrips d (length table) co)
     unfolding channelStrips Accepting
     channel-strips-has =
         accepting-bind _ _ _ _ (accepting-given (noPicture co) (pageOf (d .layout) co)) (λ page e.
-        accepting-then _ _ _ (λ _. strips-has page (co .c) (page-less co page depth e) channel))
+        accepting-then _ _ _ (λ _. strips-has page (co .c) (page-less co page below e) (below .1)))
 
     pub plane-own : planeStrips d (table ++ rest) len co ≡ planeStrips d table len co
     unfolding planeStrips
@@ -184,24 +192,25 @@ module _ (d : Description) (table rest : List ℕ) (fits : Fits d table) where
     pub reach : 0 < r .w → 0 < r .h → windowEnd d r ≤ total table (s .first) (s .count)
 
   -- "t, c, z": a coordinate that is accepted is there
-  coordinate-there : (co : Coordinate) → Accepting (λ (u : Unit {0}). (co .c < d .dims .c) × (co .z < d .dims .z)) (coordinateThere d co)
+  coordinate-there : (co : Coordinate) → Accepting (λ (u : Unit {0}). Below co) (coordinateThere d co)
   unfolding coordinateThere coordinates
   coordinate-there co =
       accepting-then _ _ _ (λ _.
       accepting-map _ _ _ (λ _ e.
       let h = both-hold (ltb (co .t) (d .dims .t) && ltb (co .c) (d .dims .c)) (ltb (co .z) (d .dims .z)) e in
-      (ltb-true _ _ (both-hold (ltb (co .t) (d .dims .t)) (ltb (co .c) (d .dims .c)) (h .0) .1), ltb-true _ _ (h .1)))
+      let k = both-hold (ltb (co .t) (d .dims .t)) (ltb (co .c) (d .dims .c)) (h .0) in
+      (ltb-true _ _ (k .0), ltb-true _ _ (k .1), ltb-true _ _ (h .1)))
       (accepting-need (noPicture co) (ltb (co .t) (d .dims .t) && ltb (co .c) (d .dims .c) && ltb (co .z) (d .dims .z))))
 
   module _ (len : ℕ) (co : Coordinate) where
     pub plane-from-own : planeFrom d (table ++ rest) len co ≡ planeFrom d table len co
     unfolding planeFrom
-    plane-from-own = bind-accepting _ _ refl (coordinate-there co) (λ _ h. plane-own len co (h .0) (h .1))
+    plane-from-own = bind-accepting _ _ refl (coordinate-there co) (λ _ h. plane-own len co h)
 
     pub region-from-own : (r : Rect) → regionFrom d (table ++ rest) len co r ≡ regionFrom d table len co r
     unfolding regionFrom
     region-from-own r =
-        bind-accepting _ _ refl (coordinate-there co) (λ _ h. bind-law _ refl (λ _. filled-own len co (h .0) (h .1) (isEmpty r) r))
+        bind-accepting _ _ refl (coordinate-there co) (λ _ h. bind-law _ refl (λ _. filled-own len co h (isEmpty r) r))
 
     pub plane-within : (s : Strips) → planeFrom d table len co ≡ accepted s → Within len (wholePicture d) s
     plane-within s e =
@@ -210,7 +219,7 @@ module _ (d : Description) (table rest : List ℕ) (fits : Fits d table) where
         let a = plane-accepted d table len co s p in
         let h = accepting-told _ _ u (coordinate-there co) k in
         record {
-          has = strips-told len co (h .0) (h .1) s (a .channel);
+          has = strips-told len co h s (a .channel);
           inFile = a .within;
           reach = λ _ l. accepted-by-plane d table len co (wholePicture d) (omega arith) (omega arith) l s p .reach;
         })
@@ -226,4 +235,4 @@ module _ (d : Description) (table rest : List ℕ) (fits : Fits d table) where
         let l = rectangle-within (d .dims) r v p in
         let a = region-accepted d table len co r (l .0) (l .1) (not-empty r i .1) s m in
         let h = accepting-told _ _ u (coordinate-there co) k in
-        record { has = strips-told len co (h .0) (h .1) s (a .channel); inFile = a .within; reach = λ _ _. a .reach })
+        record { has = strips-told len co h s (a .channel); inFile = a .within; reach = λ _ _. a .reach })

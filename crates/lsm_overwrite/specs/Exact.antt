@@ -16,7 +16,7 @@ use Rattle.lsm_format.specs.Picture.{Strips, Samples, offsetOf, countOf, sample
 
 -- ---- "the picture defined under 2", by what the caller names
 
--- The strips of the channel on "Page of a picture: scene × depth + z".
+-- The strips of the channel on the page of "a picture's page is (scene × T + t) × depth + z" (document 02, request 1).
 abbrev pub namedStrips : Description → Coordinate → Strips
 namedStrips d co = stripsOn d (pageNumber (d .layout) co) (co .c)
 

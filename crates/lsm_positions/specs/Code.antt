@@ -15,7 +15,7 @@ use Rattle.lsm_positions.specs.declared.PageIndex.{PageIndex}
 use Rattle.lsm_positions.specs.declared.PageIndex.the-variants.{Page, Outside}
 
 abbrev pub layoutOf : LsmLayout → Layout
-layoutOf l = record { scenes = l .scenes; depth = l .«pages_per_scene» }
+layoutOf l = record { scenes = l .scenes; t = l .«time_points»; depth = l .«pages_per_time_point» }
 
 abbrev pub countOf : Count → Result ℕ
 countOf (Value n) = accepted n

@@ -150,19 +150,19 @@ fn empty(rect: PixelRect) -> Answer
     accepted(0)
 }
 
-fn scenes(p: usize, m: usize, z: usize) -> Answer
+fn scenes(p: usize, m: usize, t: usize, z: usize) -> Answer
     ensures { λ r. ⌜ r .len ≤ 16 ⌝ }
 {
-    match LsmLayout::new(of_bits(low(p)), of_bits(low(m)), z) {
+    match LsmLayout::new(of_bits(low(p)), of_bits(low(m)), t, z) {
         LayoutAnswer::Layout(l) => accepted(l.scene_count()),
         LayoutAnswer::Refused(r) => refused(r),
     }
 }
 
-fn pages(p: usize, m: usize, z: usize) -> Answer
+fn pages(p: usize, m: usize, t: usize, z: usize) -> Answer
     ensures { λ r. ⌜ r .len ≤ 16 ⌝ }
 {
-    match LsmLayout::new(of_bits(low(p)), of_bits(low(m)), z) {
+    match LsmLayout::new(of_bits(low(p)), of_bits(low(m)), t, z) {
         LayoutAnswer::Layout(l) => match l.expected_pages() {
             ExpectedPages::Pages(n) => accepted(n),
             ExpectedPages::Refused(r) => refused(r),
@@ -171,12 +171,12 @@ fn pages(p: usize, m: usize, z: usize) -> Answer
     }
 }
 
-// No page is 6 here, as whoever asks makes of it.
-fn page(p: usize, m: usize, z: usize, scene: usize, plane: usize) -> Answer
+// The page of a scene's `point` and `plane`. No page is 6 here, as whoever asks makes of it.
+fn page(p: usize, m: usize, t: usize, z: usize, scene: usize, point: usize, plane: usize) -> Answer
     ensures { λ r. ⌜ r .len ≤ 16 ⌝ }
 {
-    match LsmLayout::new(of_bits(low(p)), of_bits(low(m)), z) {
-        LayoutAnswer::Layout(l) => match l.page_index(scene, plane) {
+    match LsmLayout::new(of_bits(low(p)), of_bits(low(m)), t, z) {
+        LayoutAnswer::Layout(l) => match l.page_index(scene, point, plane) {
             PageIndex::Page(n) => accepted(n),
             PageIndex::Outside => one(6),
         },
@@ -193,9 +193,9 @@ fn asked(letter: u8) -> usize
         b's' => 4,
         b'r' => 13,
         b'm' => 4,
-        b'l' => 3,
-        b'e' => 3,
-        b'p' => 5,
+        b'l' => 4,
+        b'e' => 4,
+        b'p' => 7,
         _ => 20,
     }
 }
@@ -209,9 +209,9 @@ fn answer_to(letter: u8, n: [usize; 20], bytes: &[u8]) -> Answer
         b's' => size(n[0] == 0, n[1], n[2], kind(n[3])),
         b'r' => region(n),
         b'm' => empty(PixelRect::new(n[0], n[1], n[2], n[3])),
-        b'l' => scenes(n[0], n[1], n[2]),
-        b'e' => pages(n[0], n[1], n[2]),
-        _ => page(n[0], n[1], n[2], n[3], n[4]),
+        b'l' => scenes(n[0], n[1], n[2], n[3]),
+        b'e' => pages(n[0], n[1], n[2], n[3]),
+        _ => page(n[0], n[1], n[2], n[3], n[4], n[5], n[6]),
     }
 }
 

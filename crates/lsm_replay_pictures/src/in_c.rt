@@ -10,10 +10,14 @@ use vectors::same::same_answer;
 use vectors::same::same_then_kept;
 ghost use mathlib.Core.Path.{_≡_};
 ghost use mathlib.Core.Bool.{true};
-ghost use Prim.Native.Nat.{_≤_};
+ghost use Prim.Native.Nat.{_+_, _≤_};
 ghost use lib.ListN.{length};
 ghost use Rattle.vectors.specs.Same.{sameAnswer};
+ghost use Rattle.lsm_words.specs.Description.{descriptionLength};
 ghost use Rattle.lsm_replay_pictures.specs.Code.{saidWords};
+
+// Where the table's length stands in a line that hands in a description: behind the room and the description's words.
+const TABLE: usize = 1 + DESCRIPTION_WORDS;
 
 // The largest sample buffer that a line lends.
 const ROOM: usize = 1024;
@@ -117,8 +121,8 @@ pub fn answered(
 
 // The description that these words are.
 fn description_of(said: &[usize]) -> [usize; DESCRIPTION_WORDS]
-    requires { ⌜ length (now said) ≡ 17 ⌝ }
-    ensures { λ r. ⌜ length r ≡ 17 ⌝ }
+    requires { ⌜ length (now said) ≡ descriptionLength ⌝ }
+    ensures { λ r. ⌜ length r ≡ descriptionLength ⌝ }
 {
     let mut words = [0usize; DESCRIPTION_WORDS];
     let mut i = 0;
@@ -132,27 +136,28 @@ fn description_of(said: &[usize]) -> [usize; DESCRIPTION_WORDS]
 // Whether the description and the table that the line hands in lead the C function to the line's answer: the room, the description, the
 // table's length and the table come first.
 pub fn handed(letter: u8, said: &[usize], file: &[u8]) -> bool
-    ensures { λ r. ⌜ (r ≡ true → 19 ≤ length (now (said .entry))) ⌝ }
+    ensures { λ r. ⌜ (r ≡ true → 2 + descriptionLength ≤ length (now (said .entry))) ⌝ }
 {
-    if said.len() < 19 {
+    if said.len() <= TABLE {
         return false;
     }
     let room = said[0];
     if ROOM < room {
         return false;
     }
-    let words = said[18];
-    if said.len() - 19 < words {
+    let words = said[TABLE];
+    let rest = &said[1 + TABLE..];
+    if rest.len() < words {
         return false;
     }
-    let description = description_of(&said[1..18]);
+    let description = description_of(&said[1..TABLE]);
     let mut out = [BYTE; ROOM];
     answered(
         letter,
-        &said[19 + words..],
+        &rest[words..],
         file,
         &description,
-        &said[19..19 + words],
+        &rest[..words],
         &mut out[..room],
     )
 }

@@ -29,7 +29,7 @@ fn has_page(strips: usize, words: usize, page: usize) -> bool
     page < words / 2 / strips
 }
 
-// The strips of a channel of the page that a scene's focal plane has.
+// The strips of a channel of the page that a focal plane has.
 pub(crate) fn channel_strips(d: Description, words: usize, co: Coordinate) -> Found
     requires { ⌜ co .c < descriptionOf d .dims .c ⌝ }
     ensures { λ r. ⌜ foundOf r ≡ channelStrips (descriptionOf d) words (coordinateOf co) ⌝ }
@@ -44,7 +44,7 @@ pub(crate) fn channel_strips(d: Description, words: usize, co: Coordinate) -> Fo
         c,
         z: co.z,
     };
-    let PageIndex::Page(page) = layout.page_index(co.scene, co.z) else {
+    let PageIndex::Page(page) = layout.page_index(co.scene, co.t, co.z) else {
         return Found::Refused(outside);
     };
     let Word::Value(strips) = checked_mul(dims.c, n) else {
@@ -60,12 +60,12 @@ pub(crate) fn channel_strips(d: Description, words: usize, co: Coordinate) -> Fo
     }
 }
 
-// Whether the page that a scene's focal plane has is past those of the whole-row test. No page of an opened file is.
+// Whether the page that a focal plane has is past those of the whole-row test. No page of an opened file is.
 pub(crate) fn past_test(d: Description, co: Coordinate) -> bool
     ensures { λ r. ⌜ r ≡ pastTest (descriptionOf d) (coordinateOf co) ⌝ }
 {
     let layout = d.layout;
-    let PageIndex::Page(page) = layout.page_index(co.scene, co.z) else {
+    let PageIndex::Page(page) = layout.page_index(co.scene, co.t, co.z) else {
         return false;
     };
     match layout.expected_pages() {
@@ -130,8 +130,8 @@ pub(crate) fn whole_rows(d: Description, table: &[usize]) -> bool
     ensures { λ r. ⌜ r ≡ wholeRows (descriptionOf d) (now (table .entry)) ⌝ }
 {
     let dims = d.dims;
-    let dtype = d.dtype;
     let layout = d.layout;
+    let dtype = d.dtype;
     let Word::Value(row) = checked_mul(dims.x, dtype.size_bytes()) else {
         return false;
     };

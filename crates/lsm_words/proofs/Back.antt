@@ -3,7 +3,7 @@ use Prim.Native.Nat.{ℕ, suc, _^_}
 use mathlib.Core.Path.{_≡_, refl}
 use mathlib.Core.Bool.{Bool, true, false, not}
 use mathlib.Core.Option.{Option, none, some}
-use mathlib.Core.List.{_++_}
+use mathlib.Core.List.{List, [], _∷_, _++_}
 use lib.Dec.{T}
 use lib.ListN.{getD}
 use lib.Ieee.{Float, binary32, toBits, fits, isNan}
@@ -59,12 +59,12 @@ float-back x h =
     let below = lt-ltb (toBits binary32 x) (2 ^ 32) (toBits-lt binary32 x (h .narrow)) in
     rw (below, nanBits-is binary32 (toBits binary32 x), back, not-nan (isNan x) (h .number))
 
--- The words of the pixel size and the channel block, as they stand in a description. A stated size has its own words and then the
--- step's, so the places of the block's words are known once the step is.
-abbrev words : Calibration → Option ℕ → ℕ → ℕ
-words s b i = getD (sizeWords s ++ blockWords b) i 0
+-- The words of the pixel size with those behind them, as they stand in a description. A stated size has its own words and then the step's, so
+-- the places of the words behind are known once the step is. The block's two words are followed by others in turn.
+abbrev words : Calibration → List ℕ → ℕ → ℕ
+words s behind i = getD (sizeWords s ++ behind) i 0
 
-size-back : (s : Calibration) (b : Option ℕ) → NumberSize s →
+size-back : (s : Calibration) (b : List ℕ) → NumberSize s →
     sizeBy (words s b 0) (words s b 1) (words s b 2) (words s b 3) (words s b 4) ≡ accepted s
 unfolding sizeBy sizedBy stepBy chosen sizeWords stepWords bind
 size-back uncalibrated b h = refl
@@ -73,18 +73,23 @@ size-back (sized x y absent) b h = rw (float-back x (h .0), float-back y (h .1))
 size-back (sized x y (placeholder z)) b h = rw (float-back x (h .0), float-back y (h .1), float-back z (h .2))
 size-back (sized x y (tooLarge z)) b h = rw (float-back x (h .0), float-back y (h .1), float-back z (h .2))
 
-block-place : (s : Calibration) (b : Option ℕ) (i : ℕ) → words s b (suc (suc (suc (suc (suc i))))) ≡ getD (blockWords b) i 0
+after-size : (s : Calibration) (b : List ℕ) (i : ℕ) → words s b (suc (suc (suc (suc (suc i))))) ≡ getD b i 0
 unfolding sizeWords stepWords
-block-place uncalibrated b i = refl
-block-place (sized x y (used z)) b i = refl
-block-place (sized x y absent) b i = refl
-block-place (sized x y (placeholder z)) b i = refl
-block-place (sized x y (tooLarge z)) b i = refl
+after-size uncalibrated b i = refl
+after-size (sized x y (used z)) b i = refl
+after-size (sized x y absent) b i = refl
+after-size (sized x y (placeholder z)) b i = refl
+after-size (sized x y (tooLarge z)) b i = refl
 
-block-back : (b : Option ℕ) → blockBy (getD (blockWords b) 0 0) (getD (blockWords b) 1 0) ≡ accepted b
+block-back : (b : Option ℕ) (rest : List ℕ) → blockBy (getD (blockWords b ++ rest) 0 0) (getD (blockWords b ++ rest) 1 0) ≡ accepted b
 unfolding blockBy chosen blockWords
-block-back none = refl
-block-back (some place) = refl
+block-back none rest = refl
+block-back (some place) rest = refl
+
+after-block : (b : Option ℕ) (rest : List ℕ) (i : ℕ) → getD (blockWords b ++ rest) (suc (suc i)) 0 ≡ getD rest i 0
+unfolding blockWords
+after-block none rest i = refl
+after-block (some place) rest i = refl
 
 -- ---- the whole
 
@@ -92,5 +97,6 @@ pub read-back : (d : Description) → NumberSize (d .calibration) → describedB
 unfolding describedBy descriptionWords bind
 read-back d h =
     let s = d .calibration in
-    let b = d .channelBlock in
-    rw (order-back (d .order), kind-back (d .kind), size-back s b h, block-place s b 0, block-place s b 1, block-back b)
+    let rest = d .layout .t ∷ [] in
+    let b = blockWords (d .channelBlock) ++ rest in
+    rw (order-back (d .order), kind-back (d .kind), size-back s b h, after-size s b 0, after-size s b 1, after-size s b 2, block-back (d .channelBlock) rest, after-block (d .channelBlock) rest 0)

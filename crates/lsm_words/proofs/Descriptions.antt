@@ -42,7 +42,7 @@ module _ (w : List ℕ) where
               order = o;
               kind = k;
               dims = record { t = getD w 2 0; c = getD w 3 0; z = getD w 4 0; y = getD w 5 0; x = getD w 6 0 };
-              layout = record { scenes = getD w 7 0; depth = getD w 8 0 };
+              layout = record { scenes = getD w 7 0; t = getD w 17 0; depth = getD w 8 0 };
               stripsPerChannel = getD w 9 0;
               calibration = s;
               channelBlock = b;
@@ -57,22 +57,23 @@ unfolding blockWords
 block-long none = refl
 block-long (some place) = refl
 
-parts : (s : Calibration) (b : Option ℕ) (size block : List ℕ) → size ≡ sizeWords s → block ≡ blockWords b →
-    from 0 5 size ++ from 0 2 block ≡ sizeWords s ++ blockWords b
-parts s b size block p q = rw (all 5 size (ap length p ∙ size-long s), all 2 block (ap length q ∙ block-long b), p, q)
+parts : (s : Calibration) (b : Option ℕ) (size block rest : List ℕ) → size ≡ sizeWords s → block ≡ blockWords b →
+    from 0 5 size ++ (from 0 2 block ++ rest) ≡ sizeWords s ++ (blockWords b ++ rest)
+parts s b size block rest p q = rw (all 5 size (ap length p ∙ size-long s), all 2 block (ap length q ∙ block-long b), p, q)
 
 pub description-is : (d : Description) {o k : ℕ} {size block : List ℕ} →
     o ≡ orderWord (d .order) → k ≡ kindWord (d .kind) → size ≡ sizeWords (d .calibration) → block ≡ blockWords (d .channelBlock) →
     o ∷ k ∷ d .dims .t ∷ d .dims .c ∷ d .dims .z ∷ d .dims .y ∷ d .dims .x ∷ d .layout .scenes ∷ d .layout .depth ∷ d .stripsPerChannel
-    ∷ getD size 0 0 ∷ getD size 1 0 ∷ getD size 2 0 ∷ getD size 3 0 ∷ getD size 4 0 ∷ getD block 0 0 ∷ getD block 1 0 ∷ []
+    ∷ getD size 0 0 ∷ getD size 1 0 ∷ getD size 2 0 ∷ getD size 3 0 ∷ getD size 4 0 ∷ getD block 0 0 ∷ getD block 1 0 ∷ d .layout .t ∷ []
     ≡ descriptionWords d
 unfolding descriptionWords from
-description-is d {size = size} {block = block} a b s t = rw (a, b, parts (d .calibration) (d .channelBlock) size block s t)
+description-is d {size = size} {block = block} a b s t = rw (a, b, parts (d .calibration) (d .channelBlock) size block (d .layout .t ∷ []) s t)
 
 pub description-long : (d : Description) → length (descriptionWords d) ≡ descriptionLength
 unfolding descriptionWords
 description-long d =
     let s = size-long (d .calibration) in
     let b = block-long (d .channelBlock) in
-    let a = length-append (sizeWords (d .calibration)) (blockWords (d .channelBlock)) in
+    let l = length-append (blockWords (d .channelBlock)) (d .layout .t ∷ []) in
+    let a = length-append (sizeWords (d .calibration)) (blockWords (d .channelBlock) ++ d .layout .t ∷ []) in
     omega arith

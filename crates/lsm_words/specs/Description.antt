@@ -1,6 +1,6 @@
--- A description as words: 0 byte order; 1 kind; 2 to 6 T C Z Y X; 7 scenes; 8 pages per scene; 9 strips per channel; 10 whether a
+-- A description as words: 0 byte order; 1 kind; 2 to 6 T C Z Y X; 7 scenes; 8 pages of a time point; 9 strips per channel; 10 whether a
 -- pixel size is stated; 11, 12 X and Y as f32 bits; 13 what became of the Z step; 14 its f32 bits; 15 whether there is a channel
--- block; 16 its place. A word more stands at the end.
+-- block; 16 its place; 17 the layout's T. A word more stands at the end.
 use Prim.Native.Nat.{ℕ}
 use mathlib.Core.Option.{Option, none, some}
 use mathlib.Core.List.{List, [], _∷_, _++_}
@@ -13,7 +13,7 @@ use Rattle.lsm_words.specs.Calibration.{sizeWords, chosen, sizeBy}
 
 -- How many words a description has.
 abbrev pub descriptionLength : ℕ
-descriptionLength = 17
+descriptionLength = 18
 
 -- ---- on the way out: what is absent is 0
 
@@ -36,7 +36,7 @@ descriptionWords d =
     orderWord (d .order) ∷ kindWord (d .kind)
     ∷ d .dims .t ∷ d .dims .c ∷ d .dims .z ∷ d .dims .y ∷ d .dims .x
     ∷ d .layout .scenes ∷ d .layout .depth ∷ d .stripsPerChannel
-    ∷ (sizeWords (d .calibration) ++ blockWords (d .channelBlock))
+    ∷ (sizeWords (d .calibration) ++ (blockWords (d .channelBlock) ++ d .layout .t ∷ []))
 
 -- ---- on the way in: words that are no description are refused with 2, and words of what is absent are not looked at
 
@@ -60,7 +60,7 @@ describedBy w =
       order = order;
       kind = kind;
       dims = record { t = getD w 2 0; c = getD w 3 0; z = getD w 4 0; y = getD w 5 0; x = getD w 6 0 };
-      layout = record { scenes = getD w 7 0; depth = getD w 8 0 };
+      layout = record { scenes = getD w 7 0; t = getD w 17 0; depth = getD w 8 0 };
       stripsPerChannel = getD w 9 0;
       calibration = calibration;
       channelBlock = block;

@@ -21,7 +21,7 @@ ghost use Rattle.lsm_words.specs.Description.{orderBy, kindBy, blockBy, 
 ghost use Rattle.lsm_words.specs.Code.{blockAnswerOf};
 
 // How many words a description has. A word more stands at the end.
-pub const DESCRIPTION_WORDS: usize = 17;
+pub const DESCRIPTION_WORDS: usize = 18;
 
 fn order_word(e: Endian) -> usize
     ensures { λ r. ⌜ r ≡ orderWord (orderOf e) ⌝ }
@@ -72,7 +72,7 @@ pub fn description_words(d: Description) -> [usize; DESCRIPTION_WORDS]
         dims.y,
         dims.x,
         layout.scenes,
-        layout.pages_per_scene,
+        layout.pages_per_time_point,
         d.strips_per_channel,
         size[0],
         size[1],
@@ -81,6 +81,7 @@ pub fn description_words(d: Description) -> [usize; DESCRIPTION_WORDS]
         size[4],
         block[0],
         block[1],
+        layout.time_points,
     ]
 }
 
@@ -152,7 +153,8 @@ pub fn read_description(words: &[usize; DESCRIPTION_WORDS]) -> DescriptionAnswer
     };
     let layout = LsmLayout {
         scenes: words[7],
-        pages_per_scene: words[8],
+        time_points: words[17],
+        pages_per_time_point: words[8],
     };
     DescriptionAnswer::Described(Description {
         endian,

@@ -28,7 +28,7 @@ described kind c z y x scenes depth strips =
       order = little;
       kind = kind;
       dims = record { t = 1; c = c; z = z; y = y; x = x };
-      layout = record { scenes = scenes; depth = depth };
+      layout = record { scenes = scenes; t = 1; depth = depth };
       stripsPerChannel = strips;
       calibration = uncalibrated;
       channelBlock = none;
@@ -38,14 +38,14 @@ described kind c z y x scenes depth strips =
 abbrev single : Kind → ℕ → ℕ → ℕ → Description
 single kind y x strips = described kind 1 1 y x 1 1 strips
 
-abbrev rect : ℕ → ℕ → ℕ → ℕ → Rect
+abbrev pub rect : ℕ → ℕ → ℕ → ℕ → Rect
 rect x y w h = record { x = x; y = y; w = w; h = h }
 
-abbrev samples : ℕ → ℕ → List ℕ → Result Samples
+abbrev pub samples : ℕ → ℕ → List ℕ → Result Samples
 samples rows columns bs = accepted (record { rows = rows; columns = columns; bytes = bs })
 
 -- a file of four bytes, which is all that is handed in as one
-abbrev four : List ℕ
+abbrev pub four : List ℕ
 four = 10 ∷ 11 ∷ 12 ∷ 13 ∷ []
 
 -- ---- plane
@@ -192,7 +192,7 @@ whole-row-test :
     × (wholeRows (described u8 2 1 2 2 1 1 1) (0 ∷ 4 ∷ 0 ∷ 2 ∷ []) ≡ false)
     -- "a row of 0 bytes means no"
     × (wholeRows (single u8 0 0 1) (0 ∷ 0 ∷ []) ≡ false)
-    -- "It runs over pages 0 to scenes × depth − 1": the second page's strip is short; "a page missing from the table"
+    -- "covers all of them", the pages expected: the second page's strip is short; "a page missing from the table"
     × (wholeRows (described u8 1 2 2 2 1 2 1) (0 ∷ 4 ∷ 0 ∷ 2 ∷ []) ≡ false)
     × (wholeRows (described u8 1 2 2 2 1 2 1) (0 ∷ 4 ∷ []) ≡ false)
     -- "or an overflow, means no": of the row's bytes; of the pages
@@ -205,7 +205,7 @@ whole-row-test = (refl, refl, refl, refl, refl, refl, refl, refl, refl, refl)
 abbrev layered : ℕ → ℕ → ℕ → Description
 layered planes pages columns = described u8 1 planes 1 columns 1 pages 1
 
--- "It runs over pages 0 to scenes × depth − 1": the layout's, however many planes the dimensions state. The second page holds three bytes in
+-- "The whole-row test covers all of them": the layout's pages, however many planes the dimensions state. The second page holds three bytes in
 -- rows of two.
 layout-pages :
     -- two planes, and a layout of one page: yes, since the second page isn't asked; nor is it missing

@@ -4,3 +4,4 @@ pub mod Spare
 pub mod Second
 pub mod Third
 pub mod Handed
+pub mod Series

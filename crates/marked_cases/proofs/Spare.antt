@@ -1,4 +1,4 @@
--- What the statement about two files says of the small file G, and that it would be false with a shorter list.
+-- What the statement about two files says of the small file G and of the time series W, and that it would be false with a shorter list.
 use Prim.Native.Nat.{ℕ, _+_}
 use native.Mathlib.Omega.{arith}
 use mathlib.Core.Bool.{Bool, true, false, _&&_, _||_}
@@ -26,6 +26,7 @@ use Rattle.lsm_overwrite.specs.Blind.{Overwritten, Held, Blind, BlindFor}
 use Rattle.lsm_overwrite.proofs.Blind.{blind, blind-rectangle, overwrite}
 use Rattle.marked_cases.specs.Marked.{G, G-opened}
 use Rattle.marked_cases.proofs.Listed.{G-open, second, opening-lists, all-lists, second-lists}
+use Rattle.marked_cases.proofs.Series.{W, W-open, column, last-week-lists}
 
 -- ---- on the list or not
 
@@ -60,6 +61,20 @@ unfolding covers
 spare-116 =
     blind-rectangle G G-eight (coordinate 0 0 0 0) second
     (overwrite (listedFor G (coordinate 0 0 0 0) second) G 116 8 (rw second-lists (spare (G-open ++ (117, 1) ∷ []) 116 refl)))
+
+-- "Overwriting spare bytes must be as harmless for a week-40 picture as for week 0": for a rectangle of W's last week the samples of the other weeks,
+-- planes, channels and columns are spare. The first week's first sample; the sample beside its own.
+spare-week : BlindFor W (set W 36 200) (coordinate 0 2 1 0) column
+unfolding covers
+spare-week =
+    blind-rectangle W (set W 36 200) (coordinate 0 2 1 0) column
+    (overwrite (listedFor W (coordinate 0 2 1 0) column) W 36 200 (rw last-week-lists (spare (W-open ++ (55, 1) ∷ []) 36 refl)))
+
+spare-neighbour : BlindFor W (set W 54 200) (coordinate 0 2 1 0) column
+unfolding covers
+spare-neighbour =
+    blind-rectangle W (set W 54 200) (coordinate 0 2 1 0) column
+    (overwrite (listedFor W (coordinate 0 2 1 0) column) W 54 200 (rw last-week-lists (spare (W-open ++ (55, 1) ∷ []) 54 refl)))
 
 -- ---- with a shorter list the statement would be false
 

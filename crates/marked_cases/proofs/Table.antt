@@ -5,6 +5,7 @@ use mathlib.Core.Path.{_≡_, refl}
 use mathlib.Core.Bool.{true, false}
 use mathlib.Core.List.{List, [], _∷_}
 use lib.Dec.{eqb}
+use lib.IntN.{pos, negsuc}
 use lib.ListN.{length, take, drop, set}
 use borrow.Author.Tests.{le-leb, lt-leb}
 use lib.Ieee.{binary32, ofBits, ofFields, odd}
@@ -62,6 +63,17 @@ figure-after-1000 = refl
 lossy-E2-82 : lossy (0xE2 ∷ 0x82 ∷ []) ≡ 0xEF ∷ 0xBF ∷ 0xBD ∷ []
 unfolding lossy lossyBy piece
 lossy-E2-82 = refl
+
+-- ---- numbers
+
+-- two's complement (TIFF 6.0): the largest number, the least, and -1
+signed :
+    (i32At little (255 ∷ 255 ∷ 255 ∷ 127 ∷ []) 0 ≡ accepted (pos 2147483647))
+    × (i32At little (0 ∷ 0 ∷ 0 ∷ 128 ∷ []) 0 ≡ accepted (negsuc 2147483647))
+    × (i32At big (128 ∷ 0 ∷ 0 ∷ 0 ∷ []) 0 ≡ accepted (negsuc 2147483647))
+    × (i32At big (255 ∷ 255 ∷ 255 ∷ 255 ∷ []) 0 ≡ accepted (negsuc 0))
+unfolding i32At signed32 numberAt partAt bind
+signed = (refl, refl, refl, refl)
 
 -- ---- opening: the file limit, the header and the chain
 

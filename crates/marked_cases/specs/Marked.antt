@@ -1,4 +1,5 @@
--- Document 01's marked cases (◆), one table about the definitions: a row for each, in the paper's order, with the paper's words beside it.
+-- Document 01's marked cases (◆), one table about the definitions: a row for each, in the paper's order, with the paper's words beside it. Where a
+-- change request of document 02 gives a case another answer, its words stand there too.
 use Prim.Native.Nat.{ℕ}
 use mathlib.Core.Path.{_≡_}
 use mathlib.Core.List.{List, [], _∷_}
@@ -50,7 +51,7 @@ G-opened =
             order = little;
             kind = u8;
             dims = G-dims;
-            layout = record { scenes = 1; depth = 1 };
+            layout = record { scenes = 1; t = 1; depth = 1 };
             stripsPerChannel = 1;
             calibration = uncalibrated;
             channelBlock = none;
@@ -99,8 +100,8 @@ pub record Marked : Type 0 where
   pub declared-27 : openFile (G-with 74 27) 2 ≡ refused (2 ∷ [])
   -- "◆Z 0 opens."
   pub Z-0 : openFile (G-with 104 0) 2 ≡ accepted G-opened
-  -- "◆T 2 is 3."
-  pub T-2 : openFile (G-with 112 2) 2 ≡ refused (3 ∷ [])
+  -- "◆T 2 is 3." Document 02, request 1: "G with T 2 is then 2, by its page count."
+  pub T-2 : openFile (G-with 112 2) 2 ≡ refused (2 ∷ [])
   -- "◆Strip byte count 3: opens,"
   pub strip-3-opens : openFile (G-with 66 3) 2 ≡ accepted (G-strip 3)
   -- "plane is 2."

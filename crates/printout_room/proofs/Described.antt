@@ -1,5 +1,5 @@
--- How large the numbers are that opening gives with a strip table of 4,096 words. The table's words are a product of scenes, depth,
--- channels and strips, twice; with no 0 among them, none is above 2,048 (`factors`). That none is 0, and that width and height have 32
+-- How large the numbers are that opening gives with a strip table of 4,096 words. The table's words are a product of scenes, time points,
+-- depth, channels and strips, twice; with no 0 among them, none is above 2,048 (`factors`). That none is 0, and that width and height have 32
 -- bits, is carried through opening's steps (`read-small`). Assumes nothing.
 use Prim.Native.Nat.{ℕ, zero, suc, _+_, _*_, _^_, _≤_, _<_}
 use native.Mathlib.Nat.{le-mul-of-pos-right, mul-pos}
@@ -98,9 +98,9 @@ layout-some i pages =
     (accepting-then _ _ _ (λ positions. accepting-then _ _ _ (λ tiles. omega arith))) (λ n h. h))
     (λ l h. accepting-then _ _ _ (λ expected. accepting-then _ _ _ (λ _. h)))
 
--- One time point, a picture of 32-bit sizes, at least one plane and one scene.
+-- A picture of 32-bit sizes, at least one time point, one plane and one scene.
 record Small (d : Description) : Type 0 where
-  once : d .dims .t ≡ 1
+  long : 0 < d .dims .t
   wide : d .dims .x < 2 ^ 32
   high : d .dims .y < 2 ^ 32
   deep : 0 < d .dims .z
@@ -112,7 +112,7 @@ unfolding describe Accepting
 describe-small o k p pages i h =
     accepting-bind _ _ _ _ (agreement-sizes p i) (λ _ a.
     accepting-bind _ _ _ _ (layout-some i pages) (λ l some.
-    record { once = refl; wide = rw (← a .0) (h .0); high = rw (← a .1) (h .1); deep = omega arith; scenes = some }))
+    record { long = omega arith; wide = rw (← a .0) (h .0); high = rw (← a .1) (h .1); deep = omega arith; scenes = some }))
 
 read-small : (f : List ℕ) → Bytes f → Accepting (λ (x : Opened). Small (x .description)) (read f)
 unfolding read describeWalk Accepting
@@ -132,7 +132,7 @@ read-small f bytes =
 
 -- What a table of 4,096 words has room for.
 pub record Few (d : Description) : Type 0 where
-  pub once : d .dims .t ≡ 1
+  pub long : d .dims .t ≤ 2048
   pub wide : d .dims .x < 2 ^ 32
   pub high : d .dims .y < 2 ^ 32
   pub deep : d .dims .z ≤ 2048
@@ -140,23 +140,26 @@ pub record Few (d : Description) : Type 0 where
   pub scenes : d .layout .scenes ≤ 2048
 
 -- in a product with no 0 among its factors none is larger than the product
-factors : (s z c k : ℕ) → 0 < s → 0 < z → 0 < c * k → s * z * (c * k) * 2 ≤ 4096 → (s ≤ 2048) × (z ≤ 2048) × (c ≤ 2048)
-factors s z c zero a b h room = absurd (omega arith)
-factors s z c (suc k) a b h room =
+factors : (s t z c k : ℕ) → 0 < s → 0 < t → 0 < z → 0 < c * k → s * t * z * (c * k) * 2 ≤ 4096 →
+    (s ≤ 2048) × (t ≤ 2048) × (z ≤ 2048) × (c ≤ 2048)
+factors s t z c zero a i b h room = absurd (omega arith)
+factors s t z c (suc k) a i b h room =
     omega (
       arith,
-      le-mul-of-pos-right s b,
-      le-mul-of-pos-right z a,
-      le-mul-of-pos-right (s * z) h,
-      le-mul-of-pos-right (c * suc k) (mul-pos a b),
+      le-mul-of-pos-right s i,
+      le-mul-of-pos-right t a,
+      le-mul-of-pos-right (s * t) b,
+      le-mul-of-pos-right z (mul-pos a i),
+      le-mul-of-pos-right (s * t * z) h,
+      le-mul-of-pos-right (c * suc k) (mul-pos (mul-pos a i) b),
       le-mul-of-pos-right {m = suc k} c (omega arith),
     )
 
 few : (d : Description) (table : List ℕ) → Small d → Fits d table → length table ≤ 4096 → Few d
 few d table small fits room =
-    let w : d .layout .scenes * d .dims .z * stripsPerPage d * 2 ≤ 4096 = rw (fits .deep, ← fits .words) room in
-    let n = factors (d .layout .scenes) (d .dims .z) (d .dims .c) (d .stripsPerChannel) (small .scenes) (small .deep) (fits .strips) w in
-    record { once = small .once; wide = small .wide; high = small .high; deep = n .1; channels = n .2; scenes = n .0 }
+    let w : d .layout .scenes * d .dims .t * d .dims .z * stripsPerPage d * 2 ≤ 4096 = rw (fits .long, fits .deep, ← fits .words) room in
+    let n = factors (d .layout .scenes) (d .dims .t) (d .dims .z) (d .dims .c) (d .stripsPerChannel) (small .scenes) (small .long) (small .deep) (fits .strips) w in
+    record { long = n .1; wide = small .wide; high = small .high; deep = n .2; channels = n .3; scenes = n .0 }
 
 read-few : (f : List ℕ) → Bytes f → (x : Opened) → read f ≡ accepted x → length (x .table) ≤ 4096 → Few (x .description)
 read-few f bytes x e room =

@@ -5,7 +5,8 @@ use crate::past;
 use crate::port::Port;
 use crate::random::Random;
 use crate::standin::{CHANNEL_WORDS, DESCRIPTION_WORDS, OPEN_WORDS, PICTURE_WORDS};
-use crate::walk::walk;
+use crate::twin::twin;
+use crate::walk::{walk, Walk};
 use original::probe::{self, Memory, Opened, Picture, Refused, PANIC};
 use std::collections::BTreeMap;
 use std::time::{Duration, Instant};
@@ -39,6 +40,17 @@ pub struct Past {
     pub missing: u64,
 }
 
+// Files that state several time points, which the original judges by their twins; and what was accepted of their pictures past t 0.
+#[derive(Default, Clone)]
+pub struct Series {
+    pub opened: u64,
+    pub refused: u64,
+    // a byte of T or Z is read as something else too: no twin
+    pub left_out: u64,
+    pub later_planes: u64,
+    pub later_regions: u64,
+}
+
 #[derive(Default, Clone)]
 pub struct Tally {
     pub files: u64,
@@ -53,6 +65,7 @@ pub struct Tally {
     pub no_description: u64,
     pub not_handed: u64,
     pub past: Past,
+    pub series: Series,
     pub not_reserved: u64,
     pub circles: u64,
     pub circles_left: u64,
@@ -81,6 +94,22 @@ pub struct Both {
     out: Lent<u8>,
 }
 
+// What opening a file should answer, and whether the original was asked for a twin of it.
+pub struct Wanted {
+    pub series: bool,
+    pub answer: Result<Opened, Refused>,
+}
+
+// The original's answer; for a series that of its twin. `None` for a series that has no twin.
+pub fn wanted(memory: &mut Memory, file: &[u8], w: &Walk) -> Option<Wanted> {
+    let answer = probe::open(memory, file);
+    if !probe::is_series(&answer) {
+        return Some(Wanted { series: false, answer });
+    }
+    let twin = twin(file, w)?;
+    Some(Wanted { series: true, answer: probe::open_series(memory, file, &twin.file, twin.counts) })
+}
+
 // The original's words for a refusal without its figures: one text for each rule.
 pub fn rule(text: &str) -> String {
     let mut out = String::new();
@@ -101,11 +130,13 @@ pub fn rule(text: &str) -> String {
 
 // One word of a description set to a bound; it stays a description.
 fn change(r: &mut Random, words: &mut [usize; DESCRIPTION_WORDS], len: usize) {
-    let at = r.of(&[0, 1, 2, 3, 3, 4, 5, 5, 6, 6, 7, 8, 8, 9, 9, 16]);
+    let at = r.of(&[0, 1, 2, 2, 3, 3, 4, 5, 5, 6, 6, 7, 8, 8, 9, 9, 16, 17, 17]);
     let n = words[at];
     words[at] = match at {
         0 => 1 - n,
         1 => r.below(4),
+        // the original can be given any number of scenes where a T counts
+        7 if (words[17] != 1 || 1 < words[2]) && r.chance(50) => r.of(&[0, 1 << 31, 1 << 32, 1 << 63, usize::MAX]),
         7 => r.of(&[1, 2, 3, n.wrapping_add(1), 0x7fff_ffff, 1 << 20]),
         16 => {
             words[15] = 1;
@@ -143,12 +174,39 @@ fn change(r: &mut Random, words: &mut [usize; DESCRIPTION_WORDS], len: usize) {
     };
 }
 
-// The depth set below the number of Z, or to 0, with the pages of the table kept and more of them behind: copies whose strips are
-// shorter, longer, cut elsewhere or outside the file. So the whole-row test runs over fewer pages than can be asked for.
+// A page's strips made shorter, longer, cut elsewhere or outside the file, which has so many bytes.
+fn spoil(r: &mut Random, page: &mut [usize], wide: usize, len: usize) {
+    for _ in 0..r.below(3) {
+        let at = 2 * r.below(page.len() / 2);
+        let (offset, n) = (page[at], page[at + 1]);
+        match r.below(8) {
+            0 => page[at + 1] = n.saturating_sub(1),
+            1 => page[at + 1] = r.of(&[0, n / 2, n.saturating_sub(wide)]),
+            2 | 3 => page[at + 1] = r.of(&[n + 1, n + wide, len.saturating_sub(offset)]),
+            4 => page[at] = r.below(len),
+            5 => page[at] = r.of(&[len.saturating_sub(n), len.saturating_sub(n) + 1, len, usize::MAX, usize::MAX - n]),
+            _ => {
+                // bytes go over to another strip, so that rows and samples are split
+                let (to, k) = (2 * r.below(page.len() / 2), r.below(4).min(n));
+                page[at + 1] -= k;
+                page[to + 1] += k;
+            }
+        }
+    }
+}
+
+// The depth set below the number of Z, or the layout's T below that of the dimensions, or to 0, with the pages of the table kept and
+// more of them behind: copies that are spoilt. So the whole-row test runs over fewer pages than can be asked for.
 fn shallow(r: &mut Random, words: &mut [usize; DESCRIPTION_WORDS], table: &mut Vec<usize>, len: usize) {
     let page = 2 * words[3] * words[9];
     let pages = table.len() / page;
-    words[8] = r.of(&[0, 0, words[8], words[8] / 2, words[8] - 1]);
+    // the layout's word that is lowered, the dimension that it may then be below, and the layout's other word
+    let [lowered, above, other] = r.of(&[[8, 4, 17], [8, 4, 17], [17, 2, 8]]);
+    let lower = |r: &mut Random, n: usize| r.of(&[0, 0, n, n / 2, n.saturating_sub(1)]);
+    words[lowered] = lower(r, words[lowered]);
+    if r.chance(15) {
+        words[other] = lower(r, words[other]);
+    }
     if pages == 0 {
         return;
     }
@@ -156,27 +214,11 @@ fn shallow(r: &mut Random, words: &mut [usize; DESCRIPTION_WORDS], table: &mut V
     for _ in 0..r.below(4) {
         let from = r.below(pages) * page;
         let mut copy = table[from..from + page].to_vec();
-        for _ in 0..r.below(3) {
-            let at = 2 * r.below(page / 2);
-            let (offset, n) = (copy[at], copy[at + 1]);
-            match r.below(8) {
-                0 => copy[at + 1] = n.saturating_sub(1),
-                1 => copy[at + 1] = r.of(&[0, n / 2, n.saturating_sub(words[6])]),
-                2 | 3 => copy[at + 1] = r.of(&[n + 1, n + words[6], len.saturating_sub(offset)]),
-                4 => copy[at] = r.below(len),
-                5 => copy[at] = r.of(&[len.saturating_sub(n), len.saturating_sub(n) + 1, len, usize::MAX, usize::MAX - n]),
-                _ => {
-                    // bytes go over to another strip, so that rows and samples are split
-                    let (to, k) = (2 * r.below(page / 2), r.below(4).min(n));
-                    copy[at + 1] -= k;
-                    copy[to + 1] += k;
-                }
-            }
-        }
+        spoil(r, &mut copy, words[6], len);
         table.extend(copy);
-        words[4] += 1;
+        words[above] += 1;
     }
-    words[4] += r.chance(10) as usize;
+    words[above] += r.chance(10) as usize;
 }
 
 // A length to lend: what is needed, or more.
@@ -188,13 +230,15 @@ fn room(r: &mut Random, need: usize) -> usize {
     }
 }
 
-// A coordinate in range, or now and then out of it.
+// A coordinate in range, or now and then out of it; sometimes in two of its parts, so that it shows which is looked at first.
 pub fn place(o: &Opened, r: &mut Random) -> [usize; 4] {
     let counts = [o.words[7], o.words[2], o.words[3], o.words[4]];
     let mut at = counts.map(|n| r.below(n.max(1)));
     if r.chance(15) {
-        let k = r.below(4);
-        at[k] = r.of(&[counts[k], counts[k].saturating_add(1), usize::MAX, 1 << 32, 1 << 63]);
+        for _ in 0..r.of(&[1, 1, 2]) {
+            let k = r.below(4);
+            at[k] = r.of(&[counts[k], counts[k].saturating_add(1), usize::MAX, 1 << 32, 1 << 63]);
+        }
     }
     at
 }
@@ -270,62 +314,81 @@ impl Both {
         self.tally.files += 1;
         self.tally.bytes += file.len() as u64;
         let before = self.memory.took;
-        let found = probe::open(&mut self.memory, file);
+        let found = wanted(&mut self.memory, file, &w);
         self.tally.original += self.memory.took - before;
         match found {
-            Err(refused) => {
-                *self.tally.reasons.entry(rule(&refused.text)).or_default() += 1;
-                if self.tell {
-                    println!("original: {:?} {}", refused.row, refused.text);
-                }
-                if refused.row[0] == PANIC {
-                    return Some("the original panicked on opening".to_string());
-                }
-                let n = r.of(&[0, 1, 2, 5, 64]);
-                self.opening(file, n, &refused.row, &[])
-            }
-            Ok(mut o) => {
-                if o.note.is_some() {
-                    // The stated step is read by the walker, and must give the original's note.
-                    let bits = w.z_step(file).expect("a note without a step");
-                    assert_eq!(probe::note_of(bits), o.note);
-                    o.words[14] = bits as usize;
-                    self.tally.notes += 1;
-                }
-                self.tally.scenes += (1 < o.words[7]) as u64;
-                self.tally.thumbnails += (o.words[7] * o.words[8] < w.visited) as u64;
-                if self.tell {
-                    println!("original: visited {} description {:x?}", w.visited, o.words);
-                    println!("table {:x?}", &o.table[..o.table.len().min(200)]);
-                }
-                let mut words = vec![0, w.visited, o.table.len()];
-                words.extend(o.words);
-                let need = o.table.len();
-                let n = room(r, need);
-                if let Some(d) = self.opening(file, n, &words, &o.table) {
-                    return Some(d);
-                }
-                if r.chance(25) {
-                    let any = r.below(need);
-                    let n = r.of(&[0, need - 1, need / 2, any]);
-                    if let Some(d) = self.opening(file, n, &[7, need], &[]) {
-                        return Some(d);
-                    }
-                }
-                if let Some(d) = self.lookups(file, &o, r) {
-                    return Some(d);
-                }
-                if self.pictures {
-                    if let Some(d) = self.planes(file, &o, r).or_else(|| self.regions(file, &o, r)) {
-                        return Some(d);
-                    }
-                }
-                if r.chance(self.handed) {
-                    return self.hand_in(file, &o, r).map(|d| format!("handed in, {d}"));
-                }
+            None => {
+                self.tally.series.left_out += 1;
                 None
             }
+            Some(Wanted { series, answer: Err(refused) }) => {
+                self.tally.series.refused += series as u64;
+                self.refused(file, &refused, r)
+            }
+            Some(Wanted { series, answer: Ok(mut o) }) => {
+                self.tally.series.opened += series as u64;
+                self.describe(file, &w, &mut o);
+                self.accepted(file, &w, &o, r)
+            }
         }
+    }
+
+    fn refused(&mut self, file: &[u8], refused: &Refused, r: &mut Random) -> Option<String> {
+        *self.tally.reasons.entry(rule(&refused.text)).or_default() += 1;
+        if self.tell {
+            println!("original: {:?} {}", refused.row, refused.text);
+        }
+        if refused.row[0] == PANIC {
+            return Some("the original panicked on opening".to_string());
+        }
+        let n = r.of(&[0, 1, 2, 5, 64]);
+        self.opening(file, n, &refused.row, &[])
+    }
+
+    // The description's Z step where there is a note; and what an accepted file adds to the tally.
+    fn describe(&mut self, file: &[u8], w: &Walk, o: &mut Opened) {
+        if o.note.is_some() {
+            // The stated step is read by the walker, and must give the original's note.
+            let bits = w.z_step(file).expect("a note without a step");
+            assert_eq!(probe::note_of(bits), o.note);
+            o.words[14] = bits as usize;
+            self.tally.notes += 1;
+        }
+        self.tally.scenes += (1 < o.words[7]) as u64;
+        self.tally.thumbnails += (o.words[7] * o.words[17] * o.words[8] < w.visited) as u64;
+        if self.tell {
+            println!("original: visited {} description {:x?}", w.visited, o.words);
+            println!("table {:x?}", &o.table[..o.table.len().min(200)]);
+        }
+    }
+
+    fn accepted(&mut self, file: &[u8], w: &Walk, o: &Opened, r: &mut Random) -> Option<String> {
+        let mut words = vec![0, w.visited, o.table.len()];
+        words.extend(o.words);
+        let need = o.table.len();
+        let n = room(r, need);
+        if let Some(d) = self.opening(file, n, &words, &o.table) {
+            return Some(d);
+        }
+        if r.chance(25) {
+            let any = r.below(need);
+            let n = r.of(&[0, need - 1, need / 2, any]);
+            if let Some(d) = self.opening(file, n, &[7, need], &[]) {
+                return Some(d);
+            }
+        }
+        if let Some(d) = self.lookups(file, o, r) {
+            return Some(d);
+        }
+        if self.pictures {
+            if let Some(d) = self.planes(file, o, r).or_else(|| self.regions(file, o, r)) {
+                return Some(d);
+            }
+        }
+        if r.chance(self.handed) {
+            return self.hand_in(file, o, r).map(|d| format!("handed in, {d}"));
+        }
+        None
     }
 
     // A description and a table with a few words changed, now and then over another file. Each call is answered from what is given.
@@ -493,14 +556,12 @@ impl Both {
 
     fn planes(&mut self, file: &[u8], o: &Opened, r: &mut Random) -> Option<String> {
         let size = reserved(o, None);
-        let (scenes, c, z) = (o.words[7], o.words[3], o.words[4]);
+        let counts = [o.words[7], o.words[2], o.words[3], o.words[4]];
         let mut list = Vec::new();
-        if scenes.saturating_mul(c).saturating_mul(z) <= 4 {
-            for scene in 0..scenes {
-                for c in 0..c {
-                    list.extend((0..z).map(|z| [scene, 0, c, z]));
-                }
-            }
+        let all = counts.iter().fold(1usize, |n, &k| n.saturating_mul(k));
+        if (1..=4).contains(&all) {
+            let [_, times, c, z] = counts;
+            list.extend((0..all).map(|n| [n / z / c / times, n / z / c % times, n / z % c, n % z]));
             if r.chance(40) {
                 list.push(place(o, r));
             }
@@ -617,16 +678,19 @@ impl Both {
     // The inputs whose answers are settled: the host must say them, and so must the port.
     pub fn settled(&mut self) -> Option<String> {
         for case in past::settled() {
-            let at = [0, 0, 0, case.z];
-            let asked = format!("words {:x?}, table {:x?}, z {}, {:?}", case.words, case.table, case.z, case.rect);
-            let said = past::region(&case.words, &case.table, &case.file, at, case.rect).answer();
-            if !past::decides(&case.words, at, case.rect) || said != case.wanted {
-                return Some(format!("settled, {asked}: the host says {said:?}"));
-            }
+            let asked = format!("words {:x?}, table {:x?}, at {:?}, {:?}", case.words, case.table, case.at, case.rect);
             let mut beside = std::mem::take(&mut self.beside);
             let made = probe::handed(&mut beside, &case.file, &case.words, &case.table).expect("a reader");
-            assert!(made.whole_rows());
-            let d = self.picture(&case.file, &made, at, Some(case.rect), &mut Random::of_case(0, 0, 0));
+            let past = made.whole_rows() && past::decides(&case.words, case.at, case.rect);
+            let said = match past {
+                true => past::region(&case.words, &case.table, &case.file, case.at, case.rect).answer(),
+                false => made.region(case.at, case.rect).map(|p| p.bytes).map_err(|r| r.row),
+            };
+            let d = if past != case.past || said != case.wanted {
+                Some(format!("the host says {said:?}, past the tested pages {past}"))
+            } else {
+                self.picture(&case.file, &made, case.at, Some(case.rect), &mut Random::of_case(0, 0, 0))
+            };
             drop(made);
             self.beside = beside;
             if let Some(d) = d {
@@ -654,6 +718,10 @@ impl Both {
         let n = self.port.picture(file, description, table, at, rect, out, answer);
         self.tally.port += start.elapsed();
         if rect.is_some() { &mut self.tally.regions } else { &mut self.tally.planes }.add(words[0]);
+        if words[0] == 0 && at[1] != 0 {
+            let series = &mut self.tally.series;
+            *if rect.is_some() { &mut series.later_regions } else { &mut series.later_planes } += 1;
+        }
         let call = || match rect {
             None => format!("plane {at:?}, buffer of {room} bytes"),
             Some(rect) => format!("region {at:?} {rect:?}, buffer of {room} bytes"),

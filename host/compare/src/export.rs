@@ -1,5 +1,6 @@
 // The stand-in as a static library with the C interface, so that the way through C can be tried before the library is there.
 mod standin;
+mod twin;
 mod walk;
 
 use standin::{CHANNEL_WORDS, DESCRIPTION_WORDS, OPEN_WORDS, PICTURE_WORDS, StandIn};

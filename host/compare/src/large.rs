@@ -1,4 +1,6 @@
 // A few large files at the limits: the chain's length, the number of strips, pictures above 4 GiB, circles.
+use crate::rules;
+
 pub struct File {
     pub bytes: Vec<u8>,
     big: bool,
@@ -101,6 +103,32 @@ fn rows(big: bool, rows: u64) -> Vec<u8> {
     f.bytes
 }
 
+// The same picture at two time points. The second has its strips in the other turn; where they don't hold whole rows, two of them are a
+// byte longer and shorter.
+fn rows_of_series(big: bool, rows: u64, whole: bool) -> Vec<u8> {
+    let mut f = File { bytes: self::rows(big, rows), big };
+    let (places, directory) = (f.bytes.len(), f.bytes.len() + 8 * rows as usize);
+    f.bytes.resize(directory + 2 + 12 * 6 + 4, 0);
+    for i in 0..rows as usize {
+        f.bytes.copy_within(128 + 4 * i..132 + 4 * i, places + 4 * (rows as usize - 1 - i));
+    }
+    let lengths = places + 4 * rows as usize;
+    f.bytes.copy_within(128 + 4 * rows as usize..128 + 8 * rows as usize, lengths);
+    if !whole {
+        f.put(lengths, (1 << 20) + 1, 4);
+        f.put(lengths + 4, (1 << 20) - 1, 4);
+    }
+    // the entries of the first directory, but for the CZ entry
+    f.put(94, directory as u64, 4);
+    f.put(directory, 6, 2);
+    f.bytes.copy_within(10..70, directory + 2);
+    f.bytes.copy_within(82..94, directory + 62);
+    f.put(directory + 2 + 12 * 3 + 8, places as u64, 4);
+    f.put(directory + 2 + 12 * 4 + 8, lengths as u64, 4);
+    f.put(100 + 24, 2, 4);
+    f.bytes
+}
+
 // A chain that leads back to a reduced page.
 fn circle(big: bool, full: bool) -> Vec<u8> {
     let mut f = page(big, 2, 1, 130 + 18, (4, 1, 128), (4, 1, 2));
@@ -126,8 +154,11 @@ pub fn files() -> Vec<(&'static str, Vec<u8>)> {
         list.push(("100,001 strips", strips(big, 100_001)));
         list.push(("4 GiB exactly, not asked whole", rows(big, 4096)));
         list.push(("a row above 4 GiB", rows(big, 4097)));
+        list.push(("two time points of a row above 4 GiB", rows_of_series(big, 4097, true)));
+        list.push(("two time points of a row above 4 GiB, one not in whole rows", rows_of_series(big, 4097, false)));
         list.push(("the largest sides", page(big, 0x7fff_ffff, 0x7fff_ffff, 130, (4, 1, 128), (4, 1, 2)).bytes));
     }
+    list.extend(rules::large_series().into_iter().map(|f| ("two time points above 4 GiB", f)));
     list.push(("a circle of reduced pages", circle(false, false)));
     list.push(("a circle of reduced pages", circle(true, false)));
     list.push(("a circle of full pages", circle(false, true)));

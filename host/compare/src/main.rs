@@ -12,6 +12,7 @@ mod record;
 mod rules;
 #[cfg_attr(feature = "library", allow(dead_code))]
 mod standin;
+mod twin;
 mod walk;
 
 use check::{Both, Count, Tally};
@@ -49,7 +50,7 @@ const USAGE: &str = "options:
   --no-large     without the large files
   --no-pictures  without planes and regions
   --keep N       go on until N differences were shown (1)
-  --fault N      a port with a fault, 1 to 24, to see that it is noticed
+  --fault N      a port with a fault, 1 to 28, to see that it is noticed
   --bench        times of both instead of a comparison
   --hostile      times of opening hostile files
   --case N       only this case: its bytes and both answers
@@ -212,9 +213,14 @@ fn report(t: &Tally, o: &Options, port: &str, took: Duration, differences: u64) 
         "past the tested pages: {} regions, of them {} accepted, {} refused with 2 for a missing sample; {} accepted against the original",
         past.regions, past.accepted, past.missing, past.refused_by_original
     );
+    let s = &t.series;
     println!(
-        "not compared: {} circles beyond those asked ({} asked), {} pictures that the original would reserve first",
-        t.circles_left, t.circles, t.not_reserved
+        "series: {} opened, {} refused by their twins; past t 0 {} planes and {} regions accepted",
+        s.opened, s.refused, s.later_planes, s.later_regions
+    );
+    println!(
+        "not compared: {} circles beyond those asked ({} asked), {} pictures that the original would reserve first, {} series without a twin",
+        t.circles_left, t.circles, t.not_reserved, s.left_out
     );
     println!("refusals of opening, by the original's words:");
     for (text, n) in &t.reasons {

@@ -380,6 +380,8 @@ fn plan(r: &mut Random, faults: Vec<Fault>, small: bool) -> Plan {
     }
     let channels = if small { r.of(&[1, 1, 1, 2]) } else { r.of(&[1, 1, 1, 1, 2, 2, 3, 4, 6]) };
     let z = if small { r.of(&[0, 1, 1, 1, 2]) } else { r.of(&[0, 1, 1, 1, 1, 2, 2, 3]) };
+    // of a hundred files about 15 are series
+    let times: i64 = if r.chance(15) { r.of(&[2, 2, 2, 3]) } else { r.of(&[1, 1, 0]) };
     let (mut pn, mut mn): (i64, i64) = if small {
         r.of(&[(1, 1), (0, 0), (2, 1), (1, 2), (0, 7)])
     } else {
@@ -398,7 +400,7 @@ fn plan(r: &mut Random, faults: Vec<Fault>, small: bool) -> Plan {
         }
     }
     let scenes = if 272 <= length && 0 <= pn && 0 <= mn { (pn * mn).clamp(1, 4) as usize } else { 1 };
-    let mut full = scenes * (z.max(1) as usize);
+    let mut full = scenes * (times.max(1) * z.max(1)) as usize;
     if p.has(Fault::PageCount) {
         full = if r.chance(50) { full + 1 + r.below(2) } else { full.saturating_sub(1) };
     }
@@ -442,7 +444,7 @@ fn plan(r: &mut Random, faults: Vec<Fault>, small: bool) -> Plan {
     }
     put(&mut cz, 0, bytes_of(big, magic, 4));
     put(&mut cz, 4, bytes_of(big, size as u64, 4));
-    let mut dims = [w as i64, h as i64, z, channels as i64, r.of(&[1, 1, 0])];
+    let mut dims = [w as i64, h as i64, z, channels as i64, times];
     if p.has(Fault::CzDims) {
         let at = r.below(5);
         dims[at] = r.of(&[-1, i32::MIN as i64, 0, -5]);
@@ -455,7 +457,9 @@ fn plan(r: &mut Random, faults: Vec<Fault>, small: bool) -> Plan {
         dims[3] = r.of(&[dims[3] + 1, (dims[3] - 1).max(1), 65_536 + dims[3], i32::MAX as i64]);
     }
     if p.has(Fault::Times) {
-        dims[4] = r.of(&[2, 2, 3, i32::MAX as i64]);
+        // as many time points as don't fit the pages
+        let n = times.max(1);
+        dims[4] = r.of(&[n + 1, n + 1, 2 * n, if n == 1 { 3 } else { n - 1 }, i32::MAX as i64]);
     }
     for (i, d) in dims.into_iter().enumerate() {
         put(&mut cz, 8 + 4 * i, bytes_of(big, d as u64, 4));

@@ -1,15 +1,16 @@
 // Writes a list of planes and rectangles of small accepted files with the original's answers, in the form of tools/record/README.md.
-use crate::check::{place, rectangle, reserved, LIMIT, RESERVE};
+use crate::check::{place, rectangle, reserved, wanted, LIMIT, RESERVE};
 use crate::make;
 use crate::past;
 use crate::random::Random;
-use crate::record::{line, refusal, List};
+use crate::record::{judged, line, refusal, List};
 use crate::rules;
 use crate::walk::walk;
 use original::probe::{self, Memory, Opened, PANIC};
 
-// The most sample bytes of a line.
+// The most sample bytes of a line, and the most words of a table that a replay has room for.
 const SAMPLES: usize = 200;
+const TABLE: usize = 256;
 
 // What the channels' strips are: outside the file, of another total than the picture, in the midst of samples or of rows, or whole.
 fn strips(file: &[u8], o: &Opened) -> &'static str {
@@ -108,6 +109,7 @@ impl List {
             shown.push(format!("{letter} {number} {}, order {} kind {}", strips(file, o), d[0], d[1]));
             shown.push(format!("{letter} {number} place {:?}", at.map(|n| n.min(3))));
             shown.push(format!("{letter} {number} depth {} scenes {} channels {}", d[4].min(3), d[7].min(3), d[3].min(3)));
+            shown.push(format!("{letter} {number} time points {} depth {} scenes {}", d[17].min(3), d[4].min(2), d[7].min(2)));
         }
         if let Some(rect) = rect {
             shown.push(format!("r {number} {}", sort(o, rect)));
@@ -148,10 +150,10 @@ impl List {
 pub fn record(list: &mut List, seed: u64, count: usize) {
     let mut memory = Memory::new();
     for (file, at, rect) in rules::calls() {
-        let o = probe::open(&mut memory, &file).unwrap_or_else(|r| panic!("a file of rules.rs: {}", r.text));
+        let o = judged(&mut memory, &file, &walk(&file)).unwrap_or_else(|r| panic!("a file of rules.rs: {}", r.text));
         list.call(&file, &o, at, rect);
     }
-    for (words, table, at, rect) in rules::handed() {
+    for (words, table, at, rect) in rules::handed().into_iter().chain(rules::handed_series()) {
         let o = probe::handed(&mut memory, &rules::FOUR, &words, &table).expect("what the original can be given");
         list.handed(&words, &table, &rules::FOUR, at, rect, answer(&o, &rules::FOUR, at, rect));
     }
@@ -160,7 +162,7 @@ pub fn record(list: &mut List, seed: u64, count: usize) {
     for s in past::settled() {
         let shape = [s.rect[3], s.rect[2]];
         let wanted = s.wanted.map(|bytes| read(shape, &bytes)).unwrap_or_else(|row| refusal(&row).to_vec());
-        list.handed(&s.words, &s.table, &s.file, [0, 0, 0, s.z], Some(s.rect), wanted);
+        list.handed(&s.words, &s.table, &s.file, s.at, Some(s.rect), wanted);
     }
     let count = list.written() + count;
     let mut case = 0;
@@ -170,12 +172,13 @@ pub fn record(list: &mut List, seed: u64, count: usize) {
         let f = if case % 2 == 0 { make::small(seed, case) } else { make::file(seed, case) };
         let w = walk(&f);
         let text = line('p', &[], &f).len();
-        if w.circle || 2000 < f.len() || 800 < text {
+        if w.circle || 2000 < f.len() || 1000 < text {
             continue;
         }
-        let Ok(o) = probe::open(&mut memory, &f) else { continue };
-        // One full page of one channel is had from a short file.
-        if o.words[3] * o.words[4] * o.words[7] == 1 && 380 < text {
+        let Some(Ok(o)) = wanted(&mut memory, &f, &w).map(|found| found.answer) else { continue };
+        // One full page of one channel is had from a short file. A series of several planes takes a longer one.
+        let pictures = o.words[3] * o.words[4] * o.words[7] * o.words[17];
+        if (pictures == 1 && 380 < text) || (o.words[17] == 1 && 800 < text) || TABLE < o.table.len() {
             continue;
         }
         list.files += 1;

@@ -119,7 +119,26 @@ pub struct Faulty {
     beside: StandIn,
 }
 
-// 1 to 10 are faults of opening, 11 to 15 of channel lookup, 16 to 24 of pictures.
+// The description and the coordinate, in the terms of a port that finds pages otherwise.
+fn misread(fault: usize, d: &[usize; DESCRIPTION_WORDS], at: [usize; 4]) -> ([usize; DESCRIPTION_WORDS], [usize; 4]) {
+    let (mut d, mut at) = (*d, at);
+    match fault {
+        // t doesn't count for the page
+        25 if at[1] < d[2] => at[1] = 0,
+        // pages by scene, z and then t
+        26 => {
+            d.swap(2, 4);
+            d.swap(8, 17);
+            at.swap(1, 3);
+        }
+        // the whole-row test leaves out T; the first pages have the same numbers then
+        28 if at[0] == 0 && at[1] == 0 => d[17] = 1,
+        _ => {}
+    }
+    (d, at)
+}
+
+// 1 to 10 are faults of opening, 11 to 15 of channel lookup, 16 to 24 of pictures, 25 to 28 of series.
 impl Port for Faulty {
     fn name(&self) -> &'static str {
         "faulty"
@@ -142,7 +161,7 @@ impl Port for Faulty {
             // needs a word more than it does
             4 if n == 7 => answer[1] += 1,
             // leaves something behind a refusal's row
-            5 if n != 0 => answer[19] = 1,
+            5 if n != 0 => answer[OPEN_WORDS - 1] = 1,
             // clears the table on a refusal
             6 if n != 0 => table.fill(0),
             // says 7 before the other checks
@@ -157,6 +176,8 @@ impl Port for Faulty {
             9 if n != 0 => answer[10..].copy_from_slice(&before[10..]),
             // accepts and writes nothing
             10 if n == 0 && !table.is_empty() => table[0] = 0,
+            // lacks the layout's T
+            27 if n == 0 => answer[OPEN_WORDS - 1] = 0,
             _ => {}
         }
         n
@@ -206,7 +227,11 @@ impl Port for Faulty {
         if self.beside.past != Past::Right && rect.is_some() {
             return self.beside.picture(file, description, table, at, rect, out, answer);
         }
-        let n = self.port.picture(file, description, table, at, rect, out, answer);
+        let (description, place) = misread(self.fault, description, at);
+        let n = self.port.picture(file, &description, table, place, rect, out, answer);
+        if n == 6 && place != at {
+            answer[1..].copy_from_slice(&at);
+        }
         match self.fault {
             // writes one byte behind the samples
             16 if n == 0 && answer[3] < out.len() => out[answer[3]] = 0,

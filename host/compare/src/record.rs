@@ -1,12 +1,12 @@
 // Writes a list of small files with the original's answers, in the form of tools/record/README.md.
-use crate::check::rule;
+use crate::check::{rule, wanted, Wanted};
 use crate::large;
 use crate::make;
 use crate::pictures;
 use crate::random::Random;
 use crate::rules;
 use crate::walk::{number, walk, Walk};
-use original::probe::{self, Channel, Memory, Opened};
+use original::probe::{self, Channel, Memory, Opened, Refused};
 use std::collections::BTreeMap;
 
 // A line: a letter, numbers in hexadecimal, a colon and bytes. `*NNBB` is NN bytes BB.
@@ -37,6 +37,14 @@ pub fn refusal(row: &[usize; 5]) -> &[usize] {
         6 => &row[..],
         _ => &row[..1],
     }
+}
+
+// The most words of a table that the replay of openings lends.
+const TABLE: usize = 64;
+
+// What opening should answer. A series that has no twin is in no list.
+pub fn judged(memory: &mut Memory, file: &[u8], w: &Walk) -> Result<Opened, Refused> {
+    wanted(memory, file, w).expect("a file that the original or a twin's answer judges").answer
 }
 
 pub struct List {
@@ -79,7 +87,7 @@ impl List {
     // `o ROOM ANSWER:FILE` and, where it opens, `n CHANNEL ROOM ANSWER:FILE`.
     fn file(&mut self, file: &[u8], w: &Walk) {
         self.files += 1;
-        match probe::open(&mut self.memory, file) {
+        match judged(&mut self.memory, file, w) {
             Err(r) => {
                 let room = self.random.of(&[0, 1, 8, 64]);
                 let mut n = vec![room];
@@ -96,6 +104,7 @@ impl List {
                     self.count("o 7".to_string());
                 }
                 let room = need + self.random.of(&[0, 0, 1, 5]);
+                assert!(room <= TABLE, "a table that a replay has no room for");
                 let mut n = vec![room, 0, w.visited, need];
                 n.extend(o.words);
                 n.extend(&o.table);
@@ -109,14 +118,14 @@ impl List {
     // A file that stands for a rule: its answer, and every channel's where there is a channel block.
     fn rule(&mut self, file: &[u8], w: &Walk) {
         self.files += 1;
-        match probe::open(&mut self.memory, file) {
+        match judged(&mut self.memory, file, w) {
             Err(r) => {
-                self.push('o', &[&[64], refusal(&r.row)].concat(), file);
+                self.push('o', &[&[TABLE], refusal(&r.row)].concat(), file);
                 self.count(format!("o {}", r.row[0]));
             }
             Ok(mut o) => {
                 complete(&mut o, w, file);
-                self.push('o', &[&[64, 0, w.visited, o.table.len()][..], &o.words, &o.table].concat(), file);
+                self.push('o', &[&[TABLE, 0, w.visited, o.table.len()][..], &o.words, &o.table].concat(), file);
                 self.count("o 0".to_string());
                 if o.words[15] == 1 {
                     for (i, c) in o.channels.iter().enumerate() {
@@ -244,9 +253,14 @@ fn written(file: &[u8], w: &Walk) -> Option<Vec<String>> {
 }
 
 // What a file shows: a refusal's rule, or the features of an accepted one. Files are taken so that each is there several times.
-fn shows(memory: &mut Memory, file: &[u8], w: &Walk) -> Vec<String> {
-    match probe::open(memory, file) {
-        Err(r) => vec![format!("{} {}", r.row[0], rule(&r.text))],
+// `None` for a series that has no twin, and for a long table.
+fn shows(memory: &mut Memory, file: &[u8], w: &Walk) -> Option<Vec<String>> {
+    let Wanted { series, answer } = wanted(memory, file, w)?;
+    if answer.as_ref().is_ok_and(|o| TABLE < o.table.len() + 5) {
+        return None;
+    }
+    Some(match answer {
+        Err(r) => vec![format!("{} {}{}", r.row[0], if series { "series, " } else { "" }, rule(&r.text))],
         Ok(o) => {
             let d = o.words;
             let mut v = vec![
@@ -255,7 +269,8 @@ fn shows(memory: &mut Memory, file: &[u8], w: &Walk) -> Vec<String> {
                 format!("depth {} scenes {}", d[4].min(3), d[7].min(3)),
                 format!("strips {}", d[9].min(4)),
                 format!("pixel {} step {}", d[10], d[13]),
-                format!("thumbnails {}", w.visited - d[7] * d[8]),
+                format!("time points {} depth {} scenes {}", d[17].min(3), d[4].min(2), d[7].min(2)),
+                format!("thumbnails {}", w.visited - d[7] * d[17] * d[8]),
                 format!("block {} rows {}", d[15], o.whole_rows()),
                 format!("declared {}", w.cz.map_or(0, |c| c.1)),
             ];
@@ -269,7 +284,7 @@ fn shows(memory: &mut Memory, file: &[u8], w: &Walk) -> Vec<String> {
             v.extend(written(file, w).expect("an accepted file's chain"));
             v
         }
-    }
+    })
 }
 
 // Document 01's small file and its neighbours.
@@ -381,7 +396,7 @@ pub fn write(folder: &str, seed: u64, count: usize) {
     for f in neighbours() {
         let w = walk(&f);
         if !w.circle {
-            short.wanted(shows(&mut memory, &f, &w), usize::MAX);
+            short.wanted(shows(&mut memory, &f, &w).expect("a neighbour that can be judged"), usize::MAX);
             short.file(&f, &w);
         }
     }
@@ -391,7 +406,7 @@ pub fn write(folder: &str, seed: u64, count: usize) {
             short.file(&f, &walk(&f));
         }
     }
-    // Small files, each for something that is not there often enough yet. Several scenes want a longer CZ block.
+    // Small files, each for something that is not there often enough yet.
     let mut case = 0;
     let mut often = 3;
     while short.files < count {
@@ -405,10 +420,10 @@ pub fn write(folder: &str, seed: u64, count: usize) {
         if w.circle || 760 < f.len() || 600 < text {
             continue;
         }
-        let s = shows(&mut memory, &f, &w);
-        let scenes =
-            s.iter().any(|s| s.contains("scenes 2") || s.contains("scenes 3") || s.contains("P*M") || s.contains("Dimension"));
-        if (400 < f.len() || 420 < text) && !scenes {
+        let Some(s) = shows(&mut memory, &f, &w) else { continue };
+        // several scenes want a long CZ block, and a series several pages
+        let long = ["scenes 2", "scenes 3", "P*M", "Dimension", "series", "time points 2", "time points 3"];
+        if (400 < f.len() || 420 < text) && !s.iter().any(|s| long.iter().any(|part| s.contains(part))) {
             continue;
         }
         if short.wanted(s, often) {
@@ -430,12 +445,13 @@ pub fn write(folder: &str, seed: u64, count: usize) {
         }
         if let Ok(o) = probe::open(&mut memory, &f) {
             let n = o.channels.iter().filter_map(|c| c.name.as_deref()).map(str::len).max().unwrap_or(0);
+            let words = o.table.len() + 5;
             drop(o);
             // the name's length in the file is about 1,024: given, or left out
             let stored =
                 [1023u32, 1024, 1025].iter().any(|k| f.windows(4).any(|b| b == k.to_le_bytes() || b == k.to_be_bytes()));
             let often = lengths.entry(n.min(2000)).or_default();
-            if stored && 1500 < f.len() && *often < 2 {
+            if stored && 1500 < f.len() && *often < 2 && words <= TABLE {
                 *often += 1;
                 long.file(&f, &w);
             }

@@ -1,6 +1,7 @@
 // Small files, each for one rule of opening or for the order of two, that a file drawn at random seldom shows. Where a rule's refusal
 // has the number of a later check, the file has a second fault with another number, so that the answer tells which came first.
 use crate::large::File;
+use crate::standin::DESCRIPTION_WORDS;
 
 const WIDTH: u64 = 256;
 const HEIGHT: u64 = 257;
@@ -111,6 +112,20 @@ impl Small {
     fn reduced(mut self) -> Small {
         self.pages.push(vec![Entry { tag: SUBFILE, ty: 4, count: 1, value: 1 }]);
         self
+    }
+
+    // With so many further pages.
+    fn pages(self, n: usize) -> Small {
+        (0..n).fold(self, |f, _| f.page())
+    }
+
+    // With a CZ block that states P and M. The first page's strip stands behind it.
+    fn shots(mut self, p: u64, m: u64) -> Small {
+        self.cz[1] = 272;
+        self.cz.resize(68, 0);
+        self.cz[66] = p;
+        self.cz[67] = m;
+        self.value(OFFSETS, (BLOCK + 272) as u64).with(CZ, |e| e.count = 272)
     }
 
     fn back(mut self, directory: usize) -> Small {
@@ -279,13 +294,13 @@ fn orders(list: &mut Vec<Vec<u8>>) {
         list.push(f.clone().cz(CHANNELS, 9).bytes());
         list.push(f.page().value(COMPRESSION, 5).value(BITS, 9).bytes());
     }
-    // no CZ entry; the CZ block's refusals before the agreement's: a bad magic beside T 2, X of 0 beside an XY that differs
+    // no CZ entry; the CZ block's refusals before the agreement's: X of 0 beside an XY that differs
     list.push(small().without(CZ).bytes());
-    list.push(time().cz(0, 1).bytes());
     list.push(small().cz(X, 0).bytes());
     list.push(small().cz(CHANNELS, 0).cz(X, 9).bytes());
-    // "XY, channels, T above 1, several interleaved channels, strips per channel, layout, page count"
-    for f in [time(), interleaved()] {
+    // "XY, channels, several interleaved channels, strips per channel, layout, page count". A T of 2 is no fault among these: with a page
+    // too few it is 2 by the page count, and interleaved channels are 3 before that
+    for f in [time(), time().page(), interleaved(), interleaved().cz(T, 2)] {
         list.push(f.clone().bytes());
         list.push(f.clone().cz(X, 9).bytes());
         list.push(f.clone().cz(Y, 9).bytes());
@@ -304,14 +319,36 @@ fn orders(list: &mut Vec<Vec<u8>>) {
     list.push(strips(three.value(PLANAR, 2).cz(T, 2), 3).bytes());
     // a scene's count that is none beside T 2, and by itself
     for t in [1, 2] {
-        let mut shots = small().cz(T, t);
-        shots.cz[1] = 272;
-        shots.cz.resize(68, 0);
-        shots.cz[66] = 0xffff_ffff;
-        shots.cz[67] = 1;
-        let at = (BLOCK + 272) as u64;
-        list.push(shots.value(OFFSETS, at).with(CZ, |e| e.count = 272).bytes());
+        list.push(small().cz(T, t).shots(0xffff_ffff, 1).bytes());
     }
+    list.push(time().shots(1, 0x8000_0000).page().bytes());
+}
+
+// Series: which T there is, and how many pages it calls for.
+fn times(list: &mut Vec<Vec<u8>>) {
+    // one page: 0 and 1 open, a negative T is 3, a larger one calls for more pages
+    for t in [0, 1, 2, 3, 0x7fff_ffff, 0x8000_0000, 0xffff_ffff] {
+        list.push(small().cz(T, t).bytes());
+    }
+    list.push(small().cz(T, 2).cz(0, 1).bytes());
+    list.push(small().cz(T, 0xffff_ffff).page().bytes());
+    // T, Z and pages: as many as T x Z, and as many as a wrong count would want
+    for (t, z, pages) in [(2, 1, 2), (2, 0, 2), (2, 2, 4), (3, 2, 6), (0, 2, 2), (2, 1, 1), (2, 1, 3), (2, 2, 2), (2, 2, 3), (2, 3, 5)] {
+        list.push(small().cz(T, t).cz(Z, z).pages(pages - 1).bytes());
+    }
+    // reduced pages count for nothing, and the order of the file's numbers is kept
+    list.push(small().cz(T, 2).reduced().page().bytes());
+    list.push(Small { big: true, ..small().cz(T, 2).page() }.bytes());
+    // with scenes: P, M, T, Z and pages
+    for (p, m, t, z, pages) in [(2, 1, 2, 1, 4), (1, 2, 3, 0, 6), (0, 5, 2, 1, 2), (2, 1, 2, 1, 2), (2, 1, 2, 1, 3), (2, 2, 2, 1, 4)] {
+        list.push(small().cz(T, t).cz(Z, z).shots(p, m).pages(pages - 1).bytes());
+    }
+    // products that pass 64 bits: the first by 4, which is how many pages there are
+    list.push(small().cz(T, 49_477).cz(Z, 384_773).shots(34_724, 27_905).pages(3).bytes());
+    list.push(small().cz(T, 0x7fff_ffff).cz(Z, 0x7fff_ffff).shots(0x7fff_ffff, 0x7fff_ffff).bytes());
+    // the geometry of a later time point's page, and its number of strips
+    list.push(small().cz(T, 2).page().value(WIDTH, 3).bytes());
+    list.push(small().cz(T, 2).page().with(OFFSETS, |e| e.count = 2).with(COUNTS, |e| e.count = 2).bytes());
 }
 
 // A file that ends with this channel block, or with as much as there is of one.
@@ -397,6 +434,9 @@ pub fn described() -> (Vec<u8>, Vec<(usize, usize, bool)>) {
         yes(16, 8),
         yes(16, usize::MAX),
         yes(16, f.len()),
+        yes(17, 0),
+        yes(17, 2),
+        yes(17, usize::MAX),
     ];
     (f, list)
 }
@@ -404,53 +444,118 @@ pub fn described() -> (Vec<u8>, Vec<(usize, usize, bool)>) {
 // A rectangle's or a plane's call: the file, scene, t, c, z, and the rectangle x, y, w, h.
 pub type Call = (Vec<u8>, [usize; 4], Option<[usize; 4]>);
 
-// One channel of 8 bits in strips of so many bytes, at places: the picture's width and height, and the strips.
-fn strips(w: u64, h: u64, strips: &[(u64, u64)]) -> Vec<u8> {
-    let mut f = small().value(WIDTH, w).value(HEIGHT, h).cz(X, w).cz(Y, h);
-    let n = strips.len() as u64;
-    f.data = strips.iter().map(|s| s.0 as u32).chain(strips.iter().map(|s| s.1 as u32)).flat_map(u32::to_le_bytes).collect();
-    let at = BLOCK as u64 + 28;
-    let array = |e: &mut Entry, place: u64, first: u64| (e.ty, e.count, e.value) = (4, n, if n == 1 { first } else { place });
-    let f = f.with(WIDTH, |e| e.ty = 4).with(HEIGHT, |e| e.ty = 4);
-    f.with(OFFSETS, |e| array(e, at, strips[0].0)).with(COUNTS, |e| array(e, at + 4 * n, strips[0].1)).bytes()
+// A time series of one channel of 8 bits, a page for each time point: the picture's width and height, and of each page the strips' places
+// and lengths.
+fn paged(w: u64, h: u64, pages: &[&[(u64, u64)]]) -> Vec<u8> {
+    let mut f = small().cz(X, w).cz(Y, h).cz(T, pages.len() as u64);
+    f.data.clear();
+    for (i, strips) in pages.iter().enumerate() {
+        f = f.pages((i != 0) as usize).value(WIDTH, w).value(HEIGHT, h).with(WIDTH, |e| e.ty = 4).with(HEIGHT, |e| e.ty = 4);
+        let n = strips.len() as u64;
+        let at = (BLOCK + 28 + f.data.len()) as u64;
+        let array = |e: &mut Entry, place: u64, first: u64| (e.ty, e.count, e.value) = (4, n, if n == 1 { first } else { place });
+        f = f.with(OFFSETS, |e| array(e, at, strips[0].0)).with(COUNTS, |e| array(e, at + 4 * n, strips[0].1));
+        let numbers = strips.iter().map(|s| s.0 as u32).chain(strips.iter().map(|s| s.1 as u32));
+        f.data.extend(numbers.flat_map(u32::to_le_bytes));
+    }
+    f.bytes()
 }
 
-// A picture above 4 GiB, 65,536 bytes wide: whether it is read by rows is what the answers tell, 2 for a strip outside the file and 4 for
-// the size. Then strips that end with the file, and a byte past it.
+// One page of it alone.
+fn strips(w: u64, h: u64, strips: &[(u64, u64)]) -> Vec<u8> {
+    paged(w, h, &[strips])
+}
+
+// A picture above 4 GiB, 65,536 bytes wide, in two strips outside the file: with these lengths each holds whole rows, or doesn't.
+const WIDE: u64 = 1 << 16;
+const HALF: u64 = 1 << 31;
+const WHOLE: [(u64, u64); 2] = [(8, HALF), (8, HALF + WIDE)];
+const SPLIT: [(u64, u64); 2] = [(8, HALF + 1), (8, HALF + WIDE - 1)];
+
+// Two time points of such a picture: both in whole rows, or only one of them.
+pub fn large_series() -> Vec<Vec<u8>> {
+    [[WHOLE, WHOLE], [WHOLE, SPLIT], [SPLIT, WHOLE]].iter().map(|pages| paged(WIDE, WIDE + 1, &[&pages[0], &pages[1]])).collect()
+}
+
+// Whether the large picture is read by rows is what the answers tell, 2 for a strip outside the file and 4 for the size. Then strips that
+// end with the file, and a byte past it.
 pub fn calls() -> Vec<Call> {
-    let wide = 1 << 16;
-    let half = 1 << 31;
-    let large = |counts: [u64; 2]| strips(wide, wide + 1, &[(8, counts[0]), (8, counts[1])]);
+    let large = |counts: [u64; 2]| strips(WIDE, WIDE + 1, &[(8, counts[0]), (8, counts[1])]);
     let corner = Some([0, 0, 1, 1]);
     let mut list: Vec<Call> = Vec::new();
-    for counts in [[half, half + wide], [half + 1, half + wide - 1], [half, half], [half, half + 2 * wide], [half + wide, half]] {
+    for counts in [[HALF, HALF + WIDE], [HALF + 1, HALF + WIDE - 1], [HALF, HALF], [HALF, HALF + 2 * WIDE], [HALF + WIDE, HALF]] {
         list.push((large(counts), [0; 4], corner));
     }
-    list.push((large([half, half + wide]), [0; 4], None));
+    list.push((large([HALF, HALF + WIDE]), [0; 4], None));
     // the rectangle's size: 65,536 rows of it are the limit, one more passes it
-    for h in [wide, wide + 1] {
-        list.push((large([half, half + wide]), [0; 4], Some([0, 0, wide as usize, h as usize])));
+    for h in [WIDE, WIDE + 1] {
+        list.push((large([HALF, HALF + WIDE]), [0; 4], Some([0, 0, WIDE as usize, h as usize])));
     }
     let len = strips(2, 1, &[(0, 2)]).len() as u64;
     for place in [len - 2, len - 1, len] {
         list.push((strips(2, 1, &[(place, 2)]), [0; 4], None));
         list.push((strips(2, 1, &[(place, 2)]), [0; 4], corner));
     }
+    // one time point without whole rows sends the rectangles of every other to plane's checks
+    for f in large_series() {
+        list.extend((0..2).map(|t| (f.clone(), [0, t, 0, 0], corner)));
+    }
+    list.extend(calls_of_series());
+    list
+}
+
+// A series in which every page has samples of its own: so many scenes, time points, planes and channels. Sample i of a channel is
+// 16 x page + 4 x channel + i.
+fn series(scenes: u64, times: u64, planes: u64, channels: u64) -> Vec<u8> {
+    let mut f = small().cz(T, times).cz(Z, planes).cz(CHANNELS, channels);
+    if scenes != 1 {
+        f = f.shots(scenes, 1);
+    }
+    let data = (BLOCK + 4 * f.cz.len()) as u64;
+    f.data.clear();
+    for page in 0..scenes * times * planes {
+        let at = data + f.data.len() as u64;
+        // the places and the lengths of one strip or two, in line
+        let (places, lengths) = if channels == 1 { (at, 2) } else { (at | (at + 2) << 16, 2 | 2 << 16) };
+        f = f.pages((page != 0) as usize).value(SAMPLES, channels).value(PLANAR, channels);
+        f = f.with(OFFSETS, |e| (e.count, e.value) = (channels, places)).with(COUNTS, |e| (e.count, e.value) = (channels, lengths));
+        f.data.extend((0..channels).flat_map(|c| [16 * page + 4 * c, 16 * page + 4 * c + 1]).map(|n| n as u8));
+    }
+    f.bytes()
+}
+
+// Pictures of each time point: "scene slowest, z fastest".
+fn calls_of_series() -> Vec<Call> {
+    let mut list: Vec<Call> = Vec::new();
+    let mut ask = |f: Vec<u8>, places: &[[usize; 4]]| {
+        for &at in places {
+            list.push((f.clone(), at, None));
+            list.push((f.clone(), at, Some([1, 0, 1, 1])));
+        }
+    };
+    ask(series(1, 2, 2, 1), &[[0, 0, 0, 0], [0, 0, 0, 1], [0, 1, 0, 0], [0, 1, 0, 1], [0, 2, 0, 0], [0, 0, 0, 2]]);
+    ask(series(1, 3, 2, 1), &[[0, 0, 0, 1], [0, 1, 0, 0], [0, 1, 0, 1], [0, 2, 0, 0], [0, 3, 0, 0]]);
+    ask(series(2, 2, 1, 1), &[[0, 1, 0, 0], [1, 0, 0, 0], [1, 1, 0, 0], [1, 2, 0, 0], [2, 1, 0, 0]]);
+    ask(series(1, 2, 1, 2), &[[0, 0, 1, 0], [0, 1, 0, 0], [0, 1, 1, 0], [0, 1, 2, 0]]);
+    list.push((series(1, 2, 1, 1), [0, 2, 0, 0], Some([0, 0, 0, 0])));
+    list.push((series(1, 2, 1, 1), [0, 1, 0, 0], Some([2, 1, 0, 0])));
+    list.push((series(1, 2, 1, 1), [0, 1, 0, 0], Some([0, 0, 3, 1])));
     list
 }
 
 // A call with a description and a table that no file gave: the description's words, the table, scene, t, c, z, and the rectangle.
-pub type Handed = ([usize; 17], Vec<usize>, [usize; 4], Option<[usize; 4]>);
+pub type Handed = ([usize; DESCRIPTION_WORDS], Vec<usize>, [usize; 4], Option<[usize; 4]>);
 
 // What such calls are handed as a file.
 pub const FOUR: [u8; 4] = [10, 11, 12, 13];
 
-// `sizes` are channels, planes, height, width, scenes, pages of a scene and strips of a channel; kind 0 is U8, 1 is U16.
-pub fn words(kind: usize, sizes: [usize; 7]) -> [usize; 17] {
-    let mut words = [0; 17];
+// `sizes` are channels, planes, height, width, scenes, pages of a time point and strips of a channel; kind 0 is U8, 1 is U16.
+pub fn words(kind: usize, sizes: [usize; 7]) -> [usize; DESCRIPTION_WORDS] {
+    let mut words = [0; DESCRIPTION_WORDS];
     words[1] = kind;
     words[2] = 1;
     words[3..10].copy_from_slice(&sizes);
+    words[17] = 1;
     words
 }
 
@@ -531,6 +636,77 @@ pub fn handed() -> Vec<Handed> {
     ]
 }
 
+// `sizes` as above, then the time points that t is held to and those of the layout.
+fn timed(sizes: [usize; 7], t: usize, layout: usize) -> [usize; DESCRIPTION_WORDS] {
+    let mut words = words(0, sizes);
+    words[2] = t;
+    words[17] = layout;
+    words
+}
+
+// The same for T, where it counts for the page and for the whole-row test. The settled inputs of past.rs have more of it.
+pub fn handed_series() -> Vec<Handed> {
+    let wide = 1 << 33;
+    let first = [0; 4];
+    let corner = Some([0, 0, 1, 1]);
+    let one = [1, 1, 1, 1, 1, 1, 1];
+    let large = [1, 1, 1, wide, 1, 1, 1];
+    let two_scenes = [1, 1, 1, 1, 2, 1, 1];
+    let bytes = || (0..4).flat_map(|i| [i, 1]).collect::<Vec<usize>>();
+    let most = usize::MAX;
+    vec![
+        // (scene x T + t) x depth + z: T 3 and depth 2, so that neither stands for the other
+        (timed([1, 2, 1, 1, 1, 2, 1], 3, 3), bytes(), [0, 1, 0, 0], None),
+        (timed([1, 2, 1, 1, 1, 2, 1], 3, 3), bytes(), [0, 1, 0, 1], corner),
+        (timed([1, 2, 1, 1, 1, 2, 1], 3, 3), bytes(), [0, 0, 0, 1], None),
+        (timed([1, 2, 1, 1, 1, 2, 1], 3, 3), bytes(), [0, 2, 0, 0], None),
+        (timed(two_scenes, 2, 2), bytes(), [0, 1, 0, 0], None),
+        (timed(two_scenes, 2, 2), bytes(), [1, 0, 0, 0], corner),
+        // a table that ends after t 0
+        (timed(one, 2, 2), vec![3, 1], first, None),
+        (timed(one, 2, 2), vec![3, 1], [0, 1, 0, 0], None),
+        (timed(one, 2, 2), vec![3, 1], first, corner),
+        (timed(one, 2, 2), vec![3, 1], [0, 1, 0, 0], corner),
+        // t is held to the dimensions' T, pages are counted by the layout's
+        (timed(two_scenes, 2, 1), bytes(), [1, 1, 0, 0], None),
+        (timed(two_scenes, 1, 2), bytes(), [1, 0, 0, 0], None),
+        (timed(two_scenes, 1, 2), bytes(), [0, 1, 0, 0], None),
+        (timed(two_scenes, 1, 2), bytes(), [0, 1, 0, 0], Some([0, 0, 0, 0])),
+        (timed(two_scenes, 3, 0), bytes(), [1, 2, 0, 0], None),
+        (timed(two_scenes, 3, 0), bytes(), [1, 2, 0, 0], corner),
+        (timed(two_scenes, 1, 0), bytes(), [1, 0, 0, 0], None),
+        (timed(one, 0, 1), bytes(), first, None),
+        (timed(one, 0, 1), bytes(), first, Some([0, 0, 0, 0])),
+        (timed(one, 0, 0), bytes(), first, Some([2, 0, 1, 1])),
+        (timed(two_scenes, 0, 2), bytes(), [2, 0, 0, 0], None),
+        // the whole-row test over the layout's T: a page of it that is missing, and one more than it
+        (timed(large, 1, 2), vec![0, wide], first, corner),
+        (timed(large, 2, 1), vec![0, wide, 0, 3], first, corner),
+        (timed([1, 2, 1, wide, 1, 2, 1], 2, 2), vec![0, wide, 0, wide, 0, wide, 0, 3], first, corner),
+        (timed([1, 2, 1, wide, 1, 2, 1], 2, 2), vec![0, wide, 0, wide, 0, wide, 0, wide], first, corner),
+        (timed([1, 1, 1, wide, 2, 1, 1], 2, 2), vec![0, wide, 0, wide, 0, wide, 0, 3], [1, 0, 0, 0], corner),
+        // a page number that passes 64 bits at each of its steps, and would be page 0 if cut: scene x T, + t, x depth, + z
+        (timed([1, 1, 1, 1, 1 << 33, 1, 1], 1, 1 << 32), bytes(), [1 << 32, 0, 0, 0], None),
+        (timed(two_scenes, 2, most), bytes(), [1, 1, 0, 0], None),
+        (timed([1, 1, 1, 1, 1, 1 << 32, 1], 1 << 33, 1), bytes(), [0, 1 << 32, 0, 0], corner),
+        (timed([1, 2, 1, 1, 1, most, 1], 2, 2), bytes(), [0, 1, 0, 1], None),
+        // but with a depth of 0 it is z
+        (timed([1, 2, 1, 1, 1 << 40, 0, 1], 1 << 40, 1 << 40), bytes(), [1 << 32, 1 << 32, 0, 1], None),
+        (timed([1, 2, 1, 1, most, 0, 1], most, most), bytes(), [most - 1, most - 1, 0, 1], corner),
+        // scene; t, c, z; size; page. Scene; t, c, z; rectangle; empty; the rectangle's size or the picture's; page
+        (timed([1, 1, 1, wide, 2, most, 1], 2, 2), vec![], [2, 2, 0, 0], None),
+        (timed([1, 1, 1, wide, 2, most, 1], 2, 2), vec![], [1, 2, 0, 0], None),
+        (timed([1, 1, 1, wide, 2, most, 1], 2, 2), vec![], [1, 1, 0, 0], None),
+        (timed([1, 1, 1, 1, 2, most, 1], 2, 2), vec![], [1, 1, 0, 0], None),
+        (timed([1, 1, 1, wide, 2, most, 1], 2, 2), vec![], [1, 1, 0, 0], Some([wide, 0, 1, 1])),
+        (timed([1, 1, 1, wide, 2, most, 1], 2, 2), vec![], [1, 1, 0, 0], Some([wide, 0, 0, 1])),
+        (timed([1, 1, 1, wide, 2, most, 1], 2, 2), vec![], [1, 1, 0, 0], corner),
+        // any number of scenes
+        (timed([1, 1, 1, 1, 0, 1, 1], 2, 2), bytes(), first, None),
+        (timed([1, 1, 1, 1, most, 1, 1], 2, 2), bytes(), [1, 1, 0, 0], None),
+    ]
+}
+
 pub fn files() -> Vec<Vec<u8>> {
     let mut list = Vec::new();
     list.push(small().bytes());
@@ -540,6 +716,7 @@ pub fn files() -> Vec<Vec<u8>> {
     entries(&mut list);
     chains(&mut list);
     orders(&mut list);
+    times(&mut list);
     channel_blocks(&mut list);
     list
 }

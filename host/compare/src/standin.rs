@@ -1,10 +1,11 @@
 // A stand-in for the library: it answers with the words of the C interface what a copy of the original answers. With the original
 // itself it shows that the comparison is sound; with an edited copy, that a broken rule is noticed.
+use crate::twin::twin;
 use crate::walk::walk;
 use other::probe::{self, Memory, Opened, Picture, Refused};
 
 /// The words of a description and of each answer, as include/lsm.h counts them. Later versions add words at the end only.
-pub const DESCRIPTION_WORDS: usize = 17;
+pub const DESCRIPTION_WORDS: usize = probe::WORDS;
 pub const OPEN_WORDS: usize = 3 + DESCRIPTION_WORDS;
 pub const CHANNEL_WORDS: usize = 8;
 pub const PICTURE_WORDS: usize = 5;
@@ -52,12 +53,17 @@ fn say(answer: &mut [usize], words: &[usize]) -> usize {
 // The samples of a rectangle that the original refuses with 2 on a page past those of the whole-row test. It joins the channel's strips
 // and picks the samples out of them. `None` where the refusal stands.
 fn joined(file: &[u8], o: &Opened, at: [usize; 4], rect: [usize; 4], blank: bool) -> Option<Vec<u8>> {
-    let [scene, _, c, z] = at;
+    let [scene, t, c, z] = at;
     let [x, y, w, h] = rect;
-    let [kind, high, wide, scenes, depth, strips] = [1, 5, 6, 7, 8, 9].map(|i| o.words[i]);
+    let [kind, high, wide, scenes, depth, strips, times] = [1, 5, 6, 7, 8, 9, 17].map(|i| o.words[i]);
     let inside = x.checked_add(w)? <= wide && y.checked_add(h)? <= high;
-    let page = scene.checked_mul(depth)?.checked_add(z)?;
-    if !o.whole_rows() || !inside || page < scenes.checked_mul(depth)? {
+    // Where the depth is 0, no page before z counts, however many scenes and time points there are.
+    let before = |scene: usize, t: usize| match depth {
+        0 => Some(0),
+        _ => scene.checked_mul(times)?.checked_add(t)?.checked_mul(depth),
+    };
+    let page = before(scene, t)?.checked_add(z)?;
+    if !o.whole_rows() || !inside || page < before(scenes, 0)? {
         return None;
     }
     let mut bytes = Vec::new();
@@ -88,6 +94,11 @@ impl StandIn {
             self.file.extend(file);
             let mut found = probe::open(&mut self.memory, file);
             let w = walk(file);
+            if probe::is_series(&found) {
+                if let Some(twin) = twin(file, &w) {
+                    found = probe::open_series(&mut self.memory, file, &twin.file, twin.counts);
+                }
+            }
             self.visited = w.visited;
             if let Ok(o) = &mut found {
                 if o.note.is_some() {

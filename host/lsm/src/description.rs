@@ -53,7 +53,7 @@ pub struct PixelSize {
 pub struct Description {
     pub order: Order,
     pub kind: Kind,
-    /// Time points.
+    /// Time points: what a caller's t is held to.
     pub t: usize,
     /// Channels.
     pub c: usize,
@@ -64,12 +64,16 @@ pub struct Description {
     /// Width.
     pub x: usize,
     pub scenes: usize,
-    pub pages_per_scene: usize,
+    /// Pages of a time point: one for each plane of its depth.
+    pub pages_per_time_point: usize,
     pub strips_per_channel: usize,
     /// `None` where the file states no pixel size.
     pub pixel_size: Option<PixelSize>,
     /// Where the block of channel colours and names stands in the file.
     pub channel_block: Option<usize>,
+    /// Time points of a scene, by which pages are counted. Opening gives the same number as [`Description::t`]. The picture at scene, t,
+    /// c, z stands on page (scene × time_points + t) × pages_per_time_point + z.
+    pub time_points: usize,
 }
 
 impl Description {
@@ -80,7 +84,7 @@ impl Description {
         w[1] = self.kind as usize;
         w[2..7].copy_from_slice(&[self.t, self.c, self.z, self.y, self.x]);
         w[7] = self.scenes;
-        w[8] = self.pages_per_scene;
+        w[8] = self.pages_per_time_point;
         w[9] = self.strips_per_channel;
         if let Some(size) = self.pixel_size {
             w[10] = 1;
@@ -97,6 +101,7 @@ impl Description {
             w[15] = 1;
             w[16] = at;
         }
+        w[17] = self.time_points;
         w
     }
 
@@ -148,10 +153,11 @@ impl Description {
             y: w[5],
             x: w[6],
             scenes: w[7],
-            pages_per_scene: w[8],
+            pages_per_time_point: w[8],
             strips_per_channel: w[9],
             pixel_size,
             channel_block,
+            time_points: w[17],
         })
     }
 }

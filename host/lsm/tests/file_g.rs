@@ -69,10 +69,11 @@ fn g_opens() {
         y: 1,
         x: 2,
         scenes: 1,
-        pages_per_scene: 1,
+        pages_per_time_point: 1,
         strips_per_channel: 1,
         pixel_size: None,
         channel_block: None,
+        time_points: 1,
     };
     assert_eq!(opened.description, d);
 }
@@ -83,8 +84,34 @@ fn the_marked_cases_of_opening() {
     assert_eq!(number(&edited(STRUCTURE_SIZE, 27)), 2);
     assert_eq!(number(&edited(DECLARED, 27)), 2);
     assert_eq!(number(&edited(DEPTH, 0)), 0);
-    assert_eq!(number(&edited(TIMES, 2)), 3);
+    assert_eq!(number(&edited(TIMES, 0)), 0);
+    assert_eq!(number(&edited(TIMES, 2)), 2);
     assert_eq!(number(&edited(STRIP_BYTES, 3)), 0);
+}
+
+// G as a series of two time points: a second directory at its end, as the first but for the CZ entry, with a strip of its own behind it.
+fn series() -> Vec<u8> {
+    let mut f = edited(TIMES, 2);
+    let second = f.len();
+    put32(&mut f, 82, second as u32);
+    let directory = [&[5, 0], &f[10..70], &[0; 4]].concat();
+    f.extend(directory);
+    let strip = f.len();
+    put16(&mut f, second + 2 + 12 * 3 + 8, strip as u16);
+    f.extend([4, 5]);
+    f
+}
+
+#[test]
+fn a_series_opens() {
+    let file = series();
+    let mut table = [0; 4];
+    let opened = lsm::open(&file, &mut table).unwrap();
+    assert_eq!((opened.visited, opened.words), (2, 4));
+    assert_eq!(table, [116, 2, 184, 2]);
+    let d = opened.description;
+    assert_eq!((d.t, d.time_points, d.z, d.scenes, d.pages_per_time_point), (2, 2, 1, 1, 1));
+    assert_eq!(lsm::open(&file, &mut []), Err(Refusal::TooShort { needed: 4 }));
 }
 
 #[test]
@@ -94,7 +121,8 @@ fn refusals_leave_the_table() {
         (g()[..7].to_vec(), Refusal::Parse),
         (edited(0, 0x002b_4949), Refusal::Parse),
         (edited(STRUCTURE_SIZE, 27), Refusal::Decode),
-        (edited(TIMES, 2), Refusal::Unsupported),
+        (edited(TIMES, 2), Refusal::Decode),
+        (edited(TIMES, u32::MAX), Refusal::Unsupported),
     ] {
         let mut table = [77; 4];
         assert_eq!(lsm::open(&file, &mut table), Err(refusal));
@@ -169,6 +197,27 @@ mod pictures {
         let part = Picture { height: 1, width: 1, bytes: 1 };
         assert_eq!(lsm::region(&file, &d, &table, 0, 0, 0, 0, one, &mut out), Ok(part));
         assert_eq!(out, [9, 77]);
+    }
+
+    #[test]
+    fn samples_of_each_time_point() {
+        let file = series();
+        let mut table = [0; 4];
+        let d = lsm::open(&file, &mut table).unwrap().description;
+        let whole = Picture { height: 1, width: 2, bytes: 2 };
+        for (t, samples) in [(0, [7, 9]), (1, [4, 5])] {
+            let mut out = [77; 3];
+            assert_eq!(lsm::plane(&file, &d, &table, 0, t, 0, 0, &mut out), Ok(whole));
+            assert_eq!(out, [samples[0], samples[1], 77]);
+            let mut out = [77; 2];
+            let last = Rect { x: 1, y: 0, w: 1, h: 1 };
+            assert!(lsm::region(&file, &d, &table, 0, t, 0, 0, last, &mut out).is_ok());
+            assert_eq!(out, [samples[1], 77]);
+        }
+        let mut out = [77; 2];
+        let refusal = Refusal::OutOfRange { scene: 0, t: 2, c: 0, z: 0 };
+        assert_eq!(lsm::plane(&file, &d, &table, 0, 2, 0, 0, &mut out), Err(refusal));
+        assert_eq!(out, [77; 2]);
     }
 
     #[test]

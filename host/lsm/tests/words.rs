@@ -11,10 +11,11 @@ fn plain() -> Description {
         y: 4,
         x: 5,
         scenes: 6,
-        pages_per_scene: 3,
+        pages_per_time_point: 3,
         strips_per_channel: 7,
         pixel_size: None,
         channel_block: None,
+        time_points: 8,
     }
 }
 
@@ -29,7 +30,17 @@ fn descriptions_go_to_words_and_back() {
             assert_eq!(Description::from_words(&d.words()), Some(d));
         }
     }
-    assert_eq!(plain().words(), [1, 2, 1, 2, 3, 4, 5, 6, 3, 7, 0, 0, 0, 0, 0, 0, 0]);
+    assert_eq!(plain().words(), [1, 2, 1, 2, 3, 4, 5, 6, 3, 7, 0, 0, 0, 0, 0, 0, 0, 8]);
+}
+
+// Any number of time points is a description's, also one that differs from what t is held to.
+#[test]
+fn the_time_points_of_the_layout_are_a_word_of_their_own() {
+    for (t, time_points) in [(1, 1), (40, 40), (40, 0), (0, 2), (1, usize::MAX)] {
+        let d = Description { t, time_points, ..plain() };
+        assert_eq!((d.words()[2], d.words()[17]), (t, time_points));
+        assert_eq!(Description::from_words(&d.words()), Some(d));
+    }
 }
 
 #[test]

@@ -4,7 +4,7 @@ use Prim.Native.Nat.{ℕ, max}
 use mathlib.Core.Bool.{true, false, _||_}
 use lib.Dec.{leb, eqb}
 use mathlib.Core.Path.{_≡_, sym, _∙_}
-use borrow.Author.Tests.{eq-eqb, ne-eqb, le-leb, lt-leb, not-true, not-false}
+use borrow.Author.Tests.{eq-eqb, ne-eqb, not-true, not-false}
 use Rattle.lsm_format.specs.Answer.{bind}
 use Rattle.lsm_format.specs.Open.{agreement}
 use Rattle.lsm_values.proofs.Laws.{values-length}
@@ -15,7 +15,7 @@ use Rattle.lsm_description.proofs.check_agreement.Statement.{statement}
 use Rattle.lsm_description.proofs.check_agreement.Tie as tie
 use Rattle.lsm_description.proofs.check_agreement.Reads as reads
 
--- ---- the places after the tests, each seen from the next one: width, height, channels, time, planes, strips
+-- ---- the places after the tests, each seen from the next one: width, height, channels, planes, strips
 
 abbrev width-of : tie.Else2 → tie.Else1
 width-of height = height .before .before .before
@@ -24,12 +24,9 @@ abbrev height-of : tie.Else3 → tie.Else2
 height-of channels = channels .before .before
 
 abbrev channels-of : tie.Else4 → tie.Else3
-channels-of time = time .before .before
+channels-of planes = planes .before .before .before
 
-abbrev time-of : tie.Else5 → tie.Else4
-time-of planes = planes .before .before .before
-
-abbrev planes-of : tie.Else6 → tie.Else5
+abbrev planes-of : tie.Else5 → tie.Else4
 planes-of strips = strips .before .before
 
 -- the count of channels, and what was handed in
@@ -56,17 +53,14 @@ same-height c = eq-eqb _ _ (c .if2 .left)
 same-channels : (c : tie.Else3) → let width = width-of (height-of c) in eqb (info width .«dim_channels») (channels width) ≡ true
 same-channels c = eq-eqb _ _ (c .if3 .left ∙ count-of (width-of (height-of c)) .at-least-one .ensures .0)
 
-one-time : (c : tie.Else4) → leb (info (width-of (height-of (channels-of c))) .«dim_time») 1 ≡ true
-one-time c = le-leb _ _ (c .if4 .left)
-
-one-plane : (c : tie.Else5) → let width = width-of (height-of (channels-of (time-of c))) in
+one-plane : (c : tie.Else4) → let width = width-of (height-of (channels-of c)) in
     (leb (channels width) 1 || eqb (page width .«planar_configuration») 2) ≡ true
 one-plane c =
-    let count = count-of (width-of (height-of (channels-of (time-of c)))) in
-    rw (← count .at-least-one .ensures .0) (not-false _ (sym (c .before .is-interleaved .ensures) ∙ c .if5 .left))
+    let count = count-of (width-of (height-of (channels-of c))) in
+    rw (← count .at-least-one .ensures .0) (not-false _ (sym (c .before .is-interleaved .ensures) ∙ c .if4 .left))
 
-some-strips : (c : tie.Else6) → eqb (page (width-of (height-of (channels-of (time-of (planes-of c))))) .offsets .count) 0 ≡ false
-some-strips c = ne-eqb _ _ (c .if6 .left)
+some-strips : (c : tie.Else5) → eqb (page (width-of (height-of (channels-of (planes-of c)))) .offsets .count) 0 ≡ false
+some-strips c = ne-eqb _ _ (c .if5 .left)
 
 -- ---- what the code owes
 
@@ -91,60 +85,49 @@ returns-3 c =
     let width = width-of height in
     λ o f. rw (same-width width, same-height height, ← count-of width .at-least-one .ensures .0, ne-eqb _ _ (c .if3 .taken))
 
+is-interleaved-requires : tie.Need-is-interleaved-requires
+is-interleaved-requires c κs = search needs
+
 returns-4 : tie.Need-returns-4
 unfolding agreement bind
 returns-4 c =
-    let channels = c .before .before in
+    let asked = c .before in
+    let channels = asked .before .before in
     let height = height-of channels in
-    λ o f. rw (same-width (width-of height), same-height height, same-channels channels, lt-leb _ _ (c .if4 .taken))
-
-is-interleaved-requires : tie.Need-is-interleaved-requires
-is-interleaved-requires c κs = search needs
+    let width = width-of height in
+    let interleaved = not-true (leb (count-of width .at-least-one .result) 1 || eqb (page width .«planar_configuration») 2) (sym (asked .is-interleaved .ensures) ∙ c .if4 .taken) in
+    λ o f. rw (same-width width, same-height height, same-channels channels, ← count-of width .at-least-one .ensures .0, interleaved)
 
 returns-5 : tie.Need-returns-5
 unfolding agreement bind
 returns-5 c =
-    let asked = c .before in
-    let time = asked .before .before in
-    let channels = channels-of time in
+    let planes = c .before .before in
+    let channels = channels-of planes in
     let height = height-of channels in
-    let width = width-of height in
-    let interleaved = not-true (leb (count-of width .at-least-one .result) 1 || eqb (page width .«planar_configuration») 2) (sym (asked .is-interleaved .ensures) ∙ c .if5 .taken) in
-    λ o f. rw (same-width width, same-height height, same-channels channels, one-time time, ← count-of width .at-least-one .ensures .0, interleaved)
+    λ o f. rw (same-width (width-of height), same-height height, same-channels channels, one-plane planes, values-length, eq-eqb _ _ (c .if5 .taken))
+
+rem-if6 : tie.Need-rem-if6
+rem-if6 c = search (needs, count-of (width-of (height-of (channels-of (c .before .before .before)))) .at-least-one .ensures .1)
 
 returns-6 : tie.Need-returns-6
 unfolding agreement bind
 returns-6 c =
-    let planes = c .before .before in
-    let time = time-of planes in
-    let channels = channels-of time in
+    let strips = c .before .before in
+    let planes = planes-of strips in
+    let channels = channels-of planes in
     let height = height-of channels in
-    λ o f. rw (same-width (width-of height), same-height height, same-channels channels, one-time time, one-plane planes, values-length, eq-eqb _ _ (c .if6 .taken))
-
-rem-if7 : tie.Need-rem-if7
-rem-if7 c = search (needs, count-of (width-of (height-of (channels-of (time-of (c .before .before .before))))) .at-least-one .ensures .1)
+    let width = width-of height in
+    λ o f. rw (same-width width, same-height height, same-channels channels, one-plane planes, values-length, some-strips strips, ← count-of width .at-least-one .ensures .0, ne-eqb _ _ (c .if6 .taken))
 
 returns-7 : tie.Need-returns-7
 unfolding agreement bind
 returns-7 c =
     let strips = c .before .before in
     let planes = planes-of strips in
-    let time = time-of planes in
-    let channels = channels-of time in
+    let channels = channels-of planes in
     let height = height-of channels in
     let width = width-of height in
-    λ o f. rw (same-width width, same-height height, same-channels channels, one-time time, one-plane planes, values-length, some-strips strips, ← count-of width .at-least-one .ensures .0, ne-eqb _ _ (c .if7 .taken))
-
-returns-8 : tie.Need-returns-8
-unfolding agreement bind
-returns-8 c =
-    let strips = c .before .before in
-    let planes = planes-of strips in
-    let time = time-of planes in
-    let channels = channels-of time in
-    let height = height-of channels in
-    let width = width-of height in
-    λ o f. rw (same-width width, same-height height, same-channels channels, one-time time, one-plane planes, values-length, some-strips strips, ← count-of width .at-least-one .ensures .0, eq-eqb _ _ (c .if7 .left))
+    λ o f. rw (same-width width, same-height height, same-channels channels, one-plane planes, values-length, some-strips strips, ← count-of width .at-least-one .ensures .0, eq-eqb _ _ (c .if6 .left))
 
 pub check-agreement-spec : {M : Type 1} → statement M
 check-agreement-spec =
@@ -155,10 +138,9 @@ check-agreement-spec =
     returns-2
     cast-if3
     returns-3
-    returns-4
     is-interleaved-requires
+    returns-4
     returns-5
+    rem-if6
     returns-6
-    rem-if7
-    returns-7
-    returns-8)
+    returns-7)

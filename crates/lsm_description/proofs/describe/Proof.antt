@@ -49,11 +49,14 @@ at-least-one-requires c κs = search needs
 at-least-one-requires-2 : tie.Need-at-least-one-requires-2
 at-least-one-requires-2 c κs = search needs
 
-cast-t19 : tie.Need-cast-t19
-cast-t19 c = search needs
+at-least-one-requires-3 : tie.Need-at-least-one-requires-3
+at-least-one-requires-3 c κs = search needs
 
 cast-t20 : tie.Need-cast-t20
 cast-t20 c = search needs
+
+cast-t21 : tie.Need-cast-t21
+cast-t21 c = search needs
 
 div-t18 : tie.Need-div-t18
 div-t18 c = search needs
@@ -62,11 +65,12 @@ returns-3 : tie.Need-returns-3
 unfolding Open.describe bind
 returns-3 c =
     let depth = c .before .before .before in
-    let count = depth .before .before in
+    let times = depth .before in
+    let count = times .before .before in
     let laid = count .before .before in
     let asked = laid .before .before in
     let agreed = asked .before in
-    λ o f. rw (told checkOf (agreed .before .before .check-agreement .ensures o f) (agreed .enum-told .given .1), told answerOf (asked .layout-for .ensures) (laid .l .given .1), values-length, ← count .at-least-one .ensures .0, ← depth .at-least-one2 .ensures .0)
+    λ o f. rw (told checkOf (agreed .before .before .check-agreement .ensures o f) (agreed .enum-told .given .1), told answerOf (asked .layout-for .ensures) (laid .l .given .1), values-length, ← count .at-least-one .ensures .0, ← times .at-least-one2 .ensures .0, ← depth .at-least-one3 .ensures .0)
 
 pub describe-spec : {M : Type 1} → statement M
 describe-spec =
@@ -82,7 +86,8 @@ describe-spec =
     returns-2
     at-least-one-requires
     at-least-one-requires-2
-    cast-t19
+    at-least-one-requires-3
     cast-t20
+    cast-t21
     div-t18
     returns-3)

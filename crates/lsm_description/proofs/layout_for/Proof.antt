@@ -20,7 +20,7 @@ use Rattle.lsm_description.proofs.layout_for.Reads as reads
 -- ---- the places in the code, each seen from a later one: the layout asked for, the layout, the pages asked for
 
 abbrev info : tie.After-new → CzInfo
-info made = made .before .before .before .before .args .info
+info made = made .before .before .before .before .before .args .info
 
 abbrev made-of : tie.After-layout → tie.After-new
 made-of given = given .before .before
@@ -31,19 +31,22 @@ given-of asked = asked .before .before
 -- ---- what the definitions answer there
 
 -- the layout that the code asked for is the one that the definition asks for
-passed : (made : tie.After-new) → answerOf (made .new .result) ≡ layout (info made .«dim_p») (info made .«dim_m») (max 1 (info made .«dim_z»))
+passed : (made : tie.After-new) → answerOf (made .new .result) ≡ layout (info made .«dim_p») (info made .«dim_m») (max 1 (info made .«dim_time»)) (max 1 (info made .«dim_z»))
 passed made =
     let i = info made in
     let p : toZ w32 (ofZ w32 (i .«dim_p»)) ≡ i .«dim_p» = search needs in
     let m : toZ w32 (ofZ w32 (i .«dim_m»)) ≡ i .«dim_m» = search needs in
-    rw (← made .before .before .before .at-least-one .ensures .0) (rw (p, m) at (made .new .ensures))
+    rw (← made .before .before .before .before .at-least-one .ensures .0, ← made .before .before .before .at-least-one2 .ensures .0) (rw (p, m) at (made .new .ensures))
 
 layout-is : (given : tie.After-layout) → let i = info (made-of given) in
-    layout (i .«dim_p») (i .«dim_m») (max 1 (i .«dim_z»)) ≡ accepted (layoutOf (given .layout .given .0 .0))
+    layout (i .«dim_p») (i .«dim_m») (max 1 (i .«dim_time»)) (max 1 (i .«dim_z»)) ≡ accepted (layoutOf (given .layout .given .0 .0))
 layout-is given = told answerOf (passed (made-of given)) (given .layout .given .1)
 
 at-least-one-requires : tie.Need-at-least-one-requires
 at-least-one-requires c κs = search needs
+
+at-least-one-requires-2 : tie.Need-at-least-one-requires-2
+at-least-one-requires-2 c κs = search needs
 
 new-requires : tie.Need-new-requires
 new-requires c κs = search needs
@@ -92,6 +95,7 @@ layout-for-spec =
     tie.close
     (tie.spec
     at-least-one-requires
+    at-least-one-requires-2
     new-requires
     enum-known-layout
     expected-pages-requires

@@ -22,7 +22,7 @@ enum-told c = search needs
 returns : tie.Need-returns
 returns c =
     let s = c .before .before .before in
-    layout-negative _ _ _ (count-told (s .args .positions) (s .fits .positions) (c .before .before .counted .ensures) (c .enum-told .given .1))
+    layout-negative _ _ _ _ (count-told (s .args .positions) (s .fits .positions) (c .before .before .counted .ensures) (c .enum-told .given .1))
 
 counted-requires-2 : tie.Need-counted-requires-2
 counted-requires-2 c κs = search needs
@@ -37,7 +37,7 @@ returns-2 : tie.Need-returns-2
 returns-2 c =
     let p = c .before .before .before .before in
     let s = p .before .before .before in
-    layout-negative-tiles _ _ _ _ (count-told (s .args .positions) (s .fits .positions) (p .before .before .counted .ensures) (p .positions .given .1))
+    layout-negative-tiles _ _ _ _ _ (count-told (s .args .positions) (s .fits .positions) (p .before .before .counted .ensures) (p .positions .given .1))
     (count-told (s .args .tiles) (s .fits .tiles) (c .before .before .counted2 .ensures) (c .enum-told2 .given .1))
 
 cast-product : tie.Need-cast-product
@@ -54,7 +54,7 @@ returns-3 c =
     let t = c .before .before in
     let p = t .before .before .before .before in
     let s = p .before .before .before in
-    layout-is _ _ _ _ _ _ (count-told (s .args .positions) (s .fits .positions) (p .before .before .counted .ensures) (p .positions .given .1))
+    layout-is _ _ _ _ _ _ _ (count-told (s .args .positions) (s .fits .positions) (p .before .before .counted .ensures) (p .positions .given .1))
     (count-told (s .args .tiles) (s .fits .tiles) (t .before .before .counted2 .ensures) (t .tiles .given .1)) (rw (c .if1 .taken))
 
 returns-4 : tie.Need-returns-4
@@ -62,7 +62,7 @@ returns-4 c =
     let t = c .before .before in
     let p = t .before .before .before .before in
     let s = p .before .before .before in
-    layout-is _ _ _ _ _ _ (count-told (s .args .positions) (s .fits .positions) (p .before .before .counted .ensures) (p .positions .given .1))
+    layout-is _ _ _ _ _ _ _ (count-told (s .args .positions) (s .fits .positions) (p .before .before .counted .ensures) (p .positions .given .1))
     (count-told (s .args .tiles) (s .fits .tiles) (t .before .before .counted2 .ensures) (t .tiles .given .1)) (sym (max-eq-right (omega arith)))
 
 pub new-spec : {M : Type 1} → statement M

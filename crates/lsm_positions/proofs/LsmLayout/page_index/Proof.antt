@@ -1,5 +1,5 @@
--- `lsm_positions::LsmLayout::page_index` meets its contract: no such scene, a product or a sum that overflows, or the page; whatever t and c
--- are, since neither counts. Assumes nothing.
+-- `lsm_positions::LsmLayout::page_index` meets its contract: no such scene, the pages before it or the page's own number overflow, or the page;
+-- whatever c is, since it doesn't count. Assumes nothing.
 use mathlib.Core.Path.{_∙_}
 use Rattle.lsm_format.proofs.Words.{told-value, told-overflow}
 use Rattle.lsm_format.proofs.Scenes.{page-outside, page-over, page-at}
@@ -9,10 +9,13 @@ use Rattle.lsm_positions.proofs.LsmLayout.page_index.Statement.{stateme
 use Rattle.lsm_positions.proofs.LsmLayout.page_index.Tie as tie
 
 returns : tie.Need-returns
-returns c = λ t k. page-outside _ _ (c .if1 .taken)
+returns c = λ k. page-outside _ _ (c .if1 .taken)
 
-checked-mul-requires : tie.Need-checked-mul-requires
-checked-mul-requires c κs = search needs
+points-before-requires : tie.Need-points-before-requires
+points-before-requires c κs = search needs
+
+pages-of-requires : tie.Need-pages-of-requires
+pages-of-requires c κs = search needs
 
 enum-known-first : tie.Need-enum-known-first
 enum-known-first c = search needs
@@ -21,7 +24,9 @@ enum-told : tie.Need-enum-told
 enum-told c = search needs
 
 returns-2 : tie.Need-returns-2
-returns-2 c = λ t k. page-over _ _ (c .before .before .before .if1 .left) (told-overflow _ (c .before .before .checked-mul .ensures) (c .enum-told .given .1))
+returns-2 c =
+    let p = c .before .before in
+    λ k. page-over _ _ (p .before .before .if1 .left) (told-overflow _ (p .pages-of .ensures _ (p .before .points-before .ensures)) (c .enum-told .given .1))
 
 checked-add-requires : tie.Need-checked-add-requires
 checked-add-requires c κs = search needs
@@ -35,21 +40,24 @@ enum-told-2 c = search needs
 returns-3 : tie.Need-returns-3
 returns-3 c =
     let a = c .before .before .before in
-    let m = a .before .before .before .before in
-    λ t k. sym (told-value _ (a .checked-add .ensures) (c .before .page .given .1)) ∙ page-at _ _ (m .before .if1 .left) _ (told-value _ (m .checked-mul .ensures) (a .before .before .first .given .1))
+    let p = a .before .before .before .before in
+    λ k. sym (told-value _ (a .checked-add .ensures) (c .before .page .given .1))
+    ∙ page-at _ _ (p .before .before .if1 .left) _ (told-value _ (p .pages-of .ensures _ (p .before .points-before .ensures)) (a .before .before .first .given .1))
 
 returns-4 : tie.Need-returns-4
 returns-4 c =
     let a = c .before .before in
-    let m = a .before .before .before .before in
-    λ t k. sym (told-overflow _ (a .checked-add .ensures) (c .enum-told2 .given .1)) ∙ page-at _ _ (m .before .if1 .left) _ (told-value _ (m .checked-mul .ensures) (a .before .before .first .given .1))
+    let p = a .before .before .before .before in
+    λ k. sym (told-overflow _ (a .checked-add .ensures) (c .enum-told2 .given .1))
+    ∙ page-at _ _ (p .before .before .if1 .left) _ (told-value _ (p .pages-of .ensures _ (p .before .points-before .ensures)) (a .before .before .first .given .1))
 
 pub page-index-spec : {M : Type 1} → statement M
 page-index-spec =
     tie.close
     (tie.spec
     returns
-    checked-mul-requires
+    points-before-requires
+    pages-of-requires
     enum-known-first
     enum-told
     returns-2

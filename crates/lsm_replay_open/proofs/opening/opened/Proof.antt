@@ -1,5 +1,5 @@
 -- `lsm_replay_open::opening::opened` meets its contract: what is owed says something of `true` alone, and past the two tests it holds. The
--- same tests are what the parts of `said` need, which are bounded by 3 and 20. Assumes nothing.
+-- same tests are what the parts of `said` need, which are bounded by 3 and the answer's length. Assumes nothing.
 use native.Mathlib.Omega.{arith}
 use borrow.Author.Needs.{needs}
 use Rattle.vectors.proofs.Compared.{taken}

@@ -3,14 +3,15 @@ use borrow.Author.Needs.{needs}
 use Prim.Native.Nat.{_-_, _≤_}
 use mathlib.Core.Path.{_≡_}
 use lib.ListN.{length}
+use Rattle.lsm_words.specs.Description.{descriptionLength}
 use Rattle.lsm_replay_pictures.proofs.in_c.description_of.Statement.{statement}
 use Rattle.lsm_replay_pictures.proofs.in_c.description_of.Tie as tie
 
 abbrev Inv-loop : tie.InvT-loop
-Inv-loop said words₀ i₀ words i = (length words ≡ 17) × (i ≤ 17)
+Inv-loop said words₀ i₀ words i = (length words ≡ descriptionLength) × (i ≤ descriptionLength)
 
 abbrev μ-loop : tie.MeasureT-loop
-μ-loop said words₀ i₀ words i = 17 - i
+μ-loop said words₀ i₀ words i = descriptionLength - i
 
 loop-holds : tie.Need-loop-holds Inv-loop μ-loop
 loop-holds c = search needs

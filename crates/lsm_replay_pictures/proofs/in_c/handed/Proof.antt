@@ -1,5 +1,6 @@
--- `lsm_replay_pictures::in_c::handed` meets its contract: with fewer than 19 numbers the answer is `false`, which owes nothing. Past the
--- tests the description and the table are parts of the line, and the room asked for is in the memory at hand. Assumes nothing.
+-- `lsm_replay_pictures::in_c::handed` meets its contract: with fewer numbers than the room, a description and the table's length the answer is
+-- `false`, which owes nothing. Past the tests the description and the table are parts of the line, and the room asked for is in the memory at
+-- hand. Assumes nothing.
 use native.Mathlib.Omega.{arith}
 use borrow.Author.Needs.{needs}
 use Rattle.vectors.proofs.Compared.{taken}
@@ -19,8 +20,20 @@ returns-2 c = search needs
 shared-slice-read-words : tie.Need-shared-slice-read-words
 shared-slice-read-words c = search needs
 
-sub-if3 : tie.Need-sub-if3
-sub-if3 c = search needs
+add-rest : tie.Need-add-rest
+add-rest c = search needs
+
+mul-rest : tie.Need-mul-rest
+mul-rest c = search needs
+
+sub-rest : tie.Need-sub-rest
+sub-rest c = search needs
+
+part-rest-start : tie.Need-part-rest-start
+part-rest-start c = search needs
+
+part-rest-end : tie.Need-part-rest-end
+part-rest-end c = search needs
 
 returns-3 : tie.Need-returns-3
 returns-3 c = search needs
@@ -37,9 +50,6 @@ part-description-of-end c = search needs
 description-of-requires : tie.Need-description-of-requires
 description-of-requires c κs = search needs
 
-add-answered : tie.Need-add-answered
-add-answered c = search needs
-
 mul-answered : tie.Need-mul-answered
 mul-answered c = search needs
 
@@ -52,23 +62,14 @@ part-answered-start c = search needs
 part-answered-end : tie.Need-part-answered-end
 part-answered-end c = search needs
 
-add-answered-2 : tie.Need-add-answered-2
-add-answered-2 c = search needs
-
-sub-answered-2 : tie.Need-sub-answered-2
-sub-answered-2 c = search needs
-
-part-answered-start-2 : tie.Need-part-answered-start-2
-part-answered-start-2 c = search needs
-
-part-answered-end-2 : tie.Need-part-answered-end-2
-part-answered-end-2 c = search needs
+slice-aggregate-answered : tie.Need-slice-aggregate-answered
+slice-aggregate-answered c = taken _ _ (omega arith)
 
 array-borrow-prefix-out : tie.Need-array-borrow-prefix-out
 array-borrow-prefix-out c = search needs
 
-slice-aggregate-answered : tie.Need-slice-aggregate-answered
-slice-aggregate-answered c = taken _ _ (omega arith)
+slice-aggregate-answered-2 : tie.Need-slice-aggregate-answered-2
+slice-aggregate-answered-2 c = taken _ _ (omega arith)
 
 answered-requires : tie.Need-answered-requires
 answered-requires c κs = search needs
@@ -84,22 +85,22 @@ handed-spec =
     shared-slice-read-room
     returns-2
     shared-slice-read-words
-    sub-if3
+    add-rest
+    mul-rest
+    sub-rest
+    part-rest-start
+    part-rest-end
     returns-3
     sub-description-of
     part-description-of-start
     part-description-of-end
     description-of-requires
-    add-answered
     mul-answered
     sub-answered
     part-answered-start
     part-answered-end
-    add-answered-2
-    sub-answered-2
-    part-answered-start-2
-    part-answered-end-2
-    array-borrow-prefix-out
     slice-aggregate-answered
+    array-borrow-prefix-out
+    slice-aggregate-answered-2
     answered-requires
     returns-4)

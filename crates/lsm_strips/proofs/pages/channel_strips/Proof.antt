@@ -32,7 +32,7 @@ strips-told c = told-value _ (c .before .before .before .before .checked-mul .en
 
 page-told : (c : tie.After-has-page)
     → pageOf (layoutOf (start c .args .d .layout)) (coordinateOf (start c .args .co)) ≡ some (page c .page .given .0 .0)
-page-told c = told indexOf (page c .before .before .page-index .ensures _ _) (page c .page .given .1)
+page-told c = told indexOf (page c .before .before .page-index .ensures _) (page c .page .given .1)
 
 page-index-requires : tie.Need-page-index-requires
 page-index-requires c κs = search needs
@@ -44,7 +44,7 @@ enum-told : tie.Need-enum-told
 enum-told c = search needs
 
 returns : tie.Need-returns
-returns c = channel-nowhere _ _ _ (told indexOf (c .before .before .page-index .ensures _ _) (c .enum-told .given .1))
+returns c = channel-nowhere _ _ _ (told indexOf (c .before .before .page-index .ensures _) (c .enum-told .given .1))
 
 checked-mul-requires : tie.Need-checked-mul-requires
 checked-mul-requires c κs = search needs
@@ -60,7 +60,7 @@ returns-2 c =
     let m = c .before .before in
     let p = m .before .before in
     let a = p .before .before .before .before .before .args in
-    channel-missing _ _ _ _ (told indexOf (p .before .before .page-index .ensures _ _) (p .page .given .1))
+    channel-missing _ _ _ _ (told indexOf (p .before .before .page-index .ensures _) (p .page .given .1))
     (page-over (descriptionOf (a .d)) (a .words) _ (omega arith) (told-overflow _ (m .checked-mul .ensures) (c .enum-told2 .given .1)))
 
 has-page-requires : tie.Need-has-page-requires

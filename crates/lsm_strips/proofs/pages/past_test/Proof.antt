@@ -17,7 +17,7 @@ enum-told : tie.Need-enum-told
 enum-told c = search needs
 
 returns : tie.Need-returns
-returns c = past-nowhere _ _ (told indexOf (c .before .before .page-index .ensures _ _) (c .enum-told .given .1))
+returns c = past-nowhere _ _ (told indexOf (c .before .before .page-index .ensures _) (c .enum-told .given .1))
 
 expected-pages-requires : tie.Need-expected-pages-requires
 expected-pages-requires c κs = search needs
@@ -32,13 +32,13 @@ returns-2 : tie.Need-returns-2
 returns-2 c =
     let e = c .before .before .before in
     let i = e .before .before .before .before in
-    past-by _ _ _ (told indexOf (i .page-index .ensures _ _) (e .before .before .page .given .1)) _ (told pagesOf (e .expected-pages .ensures) (c .before .pages .given .1))
+    past-by _ _ _ (told indexOf (i .page-index .ensures _) (e .before .before .page .given .1)) _ (told pagesOf (e .expected-pages .ensures) (c .before .pages .given .1))
 
 returns-3 : tie.Need-returns-3
 returns-3 c =
     let e = c .before .before in
     let i = e .before .before .before .before in
-    past-over _ _ _ (told indexOf (i .page-index .ensures _ _) (e .before .before .page .given .1)) _ (told pagesOf (e .expected-pages .ensures) (c .enum-told2 .given .1)) (omega arith)
+    past-over _ _ _ (told indexOf (i .page-index .ensures _) (e .before .before .page .given .1)) _ (told pagesOf (e .expected-pages .ensures) (c .enum-told2 .given .1)) (omega arith)
 
 pub past-test-spec : {M : Type 1} → statement M
 past-test-spec =

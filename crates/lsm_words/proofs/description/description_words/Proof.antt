@@ -1,4 +1,4 @@
--- `lsm_words::description::description_words` meets its contract: the seventeen words are the definition's, by what the four callees ensure
+-- `lsm_words::description::description_words` meets its contract: the words are the definition's, by what the four callees ensure
 -- of theirs (`description-is`). The rest is that each word read is inside its array. Assumes nothing.
 use borrow.Author.Needs.{needs}
 use Rattle.lsm_description.specs.Code.{descriptionOf}

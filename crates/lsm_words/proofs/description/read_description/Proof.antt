@@ -31,8 +31,8 @@ kind c = c .before .before .before .before .before .before .before
 abbrev size : tie.After-block-of → tie.After-s
 size c = c .before .before .before .before
 
-abbrev block : tie.After-t332 → tie.After-b
-block c = c .before .before .before .before .before .before .before .before .before
+abbrev block : tie.After-t192 → tie.After-b
+block c = c .before .before .before .before .before .before .before .before .before .before
 
 -- the words that the function is lent, seen from there
 abbrev words-e : tie.After-e → List ℕ
@@ -170,6 +170,9 @@ element-copy-out-t30-2 c = search needs
 element-copy-out-t33-2 : tie.Need-element-copy-out-t33-2
 element-copy-out-t33-2 c = search needs
 
+element-copy-out-t19-2 : tie.Need-element-copy-out-t19-2
+element-copy-out-t19-2 c = search needs
+
 returns-5 : tie.Need-returns-5
 returns-5 c =
     let b = block c in
@@ -215,4 +218,5 @@ read-description-spec =
     element-copy-out-t36-2
     element-copy-out-t30-2
     element-copy-out-t33-2
+    element-copy-out-t19-2
     returns-5)
