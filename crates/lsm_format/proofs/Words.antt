@@ -43,14 +43,6 @@ none-by n false t e = ltb-false n (2 ^ 64) t
 pub word-none : (n : ℕ) → word n ≡ none → 2 ^ 64 ≤ n
 word-none n e = none-by n (ltb n (2 ^ 64)) refl e
 
--- ---- what overflows stays so
-
-pub sum-none : (a b : ℕ) → word a ≡ none → word (a + b) ≡ none
-sum-none a b e = word-over (omega (arith, word-none a e))
-
-pub product-none : (a b : ℕ) → 0 < b → word a ≡ none → word (a * b) ≡ none
-product-none a b h e = word-over (omega (arith, word-none a e, le-mul-of-pos-right a h))
-
 -- ---- what the code's answer tells
 
 pub told-value : {r : Word} {x : ℕ} (n : ℕ) → wordOf r ≡ word n → r ≡ Value x → word n ≡ some x
@@ -71,6 +63,13 @@ product-over a b p h = omega (arith, div-lt-iff-lt-mul {k = b} {x = 2 ^ 64 - 1} 
 -- a product that overflows does so with every further factor but 0
 pub product-stays : (n k : ℕ) → 0 < k → 2 ^ 64 ≤ n → 2 ^ 64 ≤ n * k
 product-stays n k p h = omega (arith, le-mul-of-pos-right n p)
+
+pub product-none : (n k : ℕ) → 0 < k → word n ≡ none → word (n * k) ≡ none
+product-none n k p e = word-over (product-stays n k p (word-none n e))
+
+-- and a number that overflows, with every number added
+pub sum-none : (n k : ℕ) → word n ≡ none → word (n + k) ≡ none
+sum-none n k e = word-over (omega (arith, word-none n e))
 
 -- a product of two numbers of 32 bits fits
 pub halves-fit : {a b : ℕ} → a < 2 ^ 32 → b < 2 ^ 32 → a * b < 2 ^ 64

@@ -1,5 +1,6 @@
 // Files made from a seed and a case's number, over every rule of document 01: most are right, many have a fault or two.
 use crate::random::Random;
+use crate::walk;
 
 // Case numbers from here on are truncations and one-byte changes of small files, each in its turn.
 pub const TRUNCATIONS: u64 = 1 << 40;
@@ -92,13 +93,7 @@ const CZ: u16 = 34412;
 const SCALARS: [u16; 8] = [SUBFILE, WIDTH, HEIGHT, BITS, COMPRESSION, SAMPLES, PLANAR, FORMAT];
 
 fn size_of(ty: u16) -> usize {
-    match ty {
-        1 | 2 | 6 | 7 => 1,
-        3 | 8 => 2,
-        4 | 9 | 11 => 4,
-        5 | 10 | 12 => 8,
-        _ => 0,
-    }
+    walk::size_of(ty as u64) as usize
 }
 
 // A number's bytes in an order.

@@ -15,7 +15,8 @@ pub fn number(file: &[u8], at: usize, n: usize, big: bool) -> Option<u64> {
     Some(if big { part.iter().fold(0, join) } else { part.iter().rev().fold(0, join) })
 }
 
-fn size_of(ty: u64) -> u64 {
+// The bytes of a value of a TIFF type.
+pub fn size_of(ty: u64) -> u64 {
     match ty {
         1 | 2 | 6 | 7 => 1,
         3 | 8 => 2,
