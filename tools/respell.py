@@ -2,9 +2,11 @@
 """Respells the repository's own definitions and lemmas: words in snake case, and `_` for the dash between the words of a lemma's name.
 
 usage: tools/respell.py            at the top, once, right after port.py and before any edit by hand
+       tools/respell.py documents  afterwards, once the crates prove: the same for README, docs/, host/ and tools/wrong
 
 It goes over crates/: proof files, definitions, the clauses and comments of sources, and must-fail edits. Names of src/, generated names and
-names of the kit stay. A lemma that would fall together with a definition's name gets `_lem`.
+names of the kit stay. A lemma that would fall together with a definition's name gets `_lem`. In documents a word is a name where the tree
+has no such name but has its new spelling, in camel case anywhere and with dashes between backticks or in a table's cell.
 """
 
 import glob
@@ -123,7 +125,57 @@ def rewrite(path, new):
     return 0
 
 
+def documents():
+    """README, docs/ and the lists of tools/wrong, by the names that the tree has now."""
+    now = set()
+    for p in files("crates/*/specs/**/*.antt") + files("crates/*/proofs/**/*.antt"):
+        with open(p, encoding="utf-8") as f:
+            for line in f:
+                m = re.match(r"\s*(?:(?:abbrev|unfoldable|pub|record|data)\s+)*([A-Za-z][^\s:(){}]*)(?= |$|:)", code(line))
+                if m:
+                    now.add(m.group(1))
+    edits = {p.split("/")[-1][:-5] for p in files("crates/*/must-fail/*.edit")}
+
+    def name(word, quoted):
+        if word in now or word in edits:
+            return word
+        if CAMEL.search(word) and word[0].islower() and "-" not in word:
+            return snake(word) if snake(word) in now else word
+        if "-" in word and quoted:
+            for new in (plain(word), plain(word) + "_lem"):
+                if new in now:
+                    return new
+        return word
+
+    def line_of(line, listed):
+        cells = line.startswith("|")
+        out, tick = [], False
+        for piece in re.split(r"(`)", line):
+            if piece == "`":
+                tick = not tick
+            elif tick or cells or listed:
+                piece = WORD.sub(lambda m: name(m.group(0), True), piece)
+            else:
+                piece = WORD.sub(lambda m: name(m.group(0), False), piece)
+            out.append(piece)
+        text = "".join(out)
+        if listed:
+            text = re.sub(r"(\w) \.(?=\w)", r"\1.", text)
+            text = re.sub(r"(?<![\w'\]]) ?\((\w+(?:\.\w+)+)\)(?!\.)", r" \1", text) if ":" in text[:5] else text
+        return text
+
+    changed = 0
+    for p in ["README.md", *files("docs/*.md"), *files("host/**/*.md"), "tools/wrong/definitions"]:
+        if p == "docs/PORT.md":
+            continue
+        listed = p.startswith("tools/")
+        changed += rewrite(p, lambda text: "\n".join(line_of(line, listed) for line in text.split("\n")))
+    print(f"respell: {changed} documents")
+
+
 def main():
+    if sys.argv[1:] == ["documents"]:
+        return documents()
     changed = 0
     table, local = names()
     for _, old, new, patterns in AGAIN:

@@ -1,4 +1,6 @@
 // Voxel sizes, the Z step and the figure of its note.
+#![tactic(auto)]
+
 ghost use Rattle.std.specs.Prelude.{◌≡◌, []};
 ghost use Rattle.lsm_format.specs.Calibration.{calibration, above_nought, z_step, figure};
 ghost use Rattle.narrowing.specs.Code.{float_of};
@@ -10,7 +12,7 @@ use narrowing::{Micrometres, to_micrometres};
 
 // What a file's Z step became, in micrometres: it is used; there is none; there is none, and a note says that the step which the
 // file states is a placeholder or too large.
-#[derive(Drop)]
+#[derive(Clone, Copy)]
 pub enum ZStep {
     Used(f32),
     Absent,
@@ -19,7 +21,7 @@ pub enum ZStep {
 }
 
 // The pixel size in micrometres, where the file states one.
-#[derive(Drop)]
+#[derive(Clone, Copy)]
 pub enum Calibration {
     Uncalibrated,
     Sized { x: f32, y: f32, z: ZStep },

@@ -250,15 +250,15 @@ between num den top a bottom b near up low =
     let l : den ≤ num = leb-true den num e in
     let z : top ≡ num = C ∙ ap (λ (z : ℕ). num * 10 ^ z) (below_yes 64 num den e) ∙ mul-one num in
     let x : bottom ≤ num = rw B (above_le 64 num den l) in
-    let y : num < 10 * bottom = rw B (above_lt 64 num den near.below-tens) in
-    (omega arith, omega arith, omega (arith, near.num-room)))
+    let y : num < 10 * bottom = rw B (above_lt 64 num den near.below_tens) in
+    (omega arith, omega arith, omega (arith, near.num_room)))
     (λ e.
     let l : num < den = leb-false den num e in
     let k : num < 10 * den = omega arith in
     let z : bottom ≡ den = B ∙ ap (λ (z : ℕ). den * 10 ^ z) (above_no 64 num den (lt-leb (10 * den) num k)) ∙ mul-one den in
-    let x : den ≤ top = rw C (below_le 64 num den near.above-tens) in
+    let x : den ≤ top = rw C (below_le 64 num den near.above_tens) in
     let y : top < 10 * den = rw C (below_lt 64 num den k) in
-    (omega arith, omega arith, omega (arith, near.den-room)))
+    (omega arith, omega arith, omega (arith, near.den_room)))
 
 -- The figure of a fraction from its tens and its three digits.
 pub figure_by_lem : (num den top a bottom b q : ℕ) → Scaled (tens_above 64 num den) den 64 bottom a → Scaled (tens_below 64 num den) num 64 top b → q ≡ hundredfold top bottom

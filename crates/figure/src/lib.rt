@@ -1,5 +1,7 @@
 // The figure of a note: a number as a short exponential, as `1e-13`, `5e-7` or `2.5e-7`.
 // The value is a fraction of two numbers of nine limbs: no rounding is done before the last digit's.
+#![tactic(auto)]
+
 ghost use Rattle.std.specs.Prelude.{◌≡◌, List, [], ◌∷◌, ◌++◌, ℕ, ◌+◌, ◌*◌, ◌^◌, ◌≤◌, ◌<◌, leb, pos, ◌-ℤ◌};
 ghost use Rattle.std.specs.Float.{binary32};
 ghost use Rattle.std.specs.Float.Ieee.{of_bits};
@@ -8,7 +10,7 @@ ghost use Rattle.figure.specs.Figured.{Figured};
 ghost use Rattle.figure.specs.Wide.{value, room, Taken, Scaled, Divided, Quotient, Hundreds, Near, figure_of};
 
 // A limb, and what goes over to the next.
-#[derive(Drop)]
+#[derive(Clone, Copy)]
 struct Limb {
     low: u32,
     over: u32,
@@ -56,7 +58,7 @@ fn times(w: [u32; 9], k: u32) -> [u32; 9]
 }
 
 // What is left of a wide number. `over` is 1 where the other was larger, and was borrowed past the last limb.
-#[derive(Drop)]
+#[derive(Clone, Copy)]
 struct Difference {
     rest: [u32; 9],
     over: u32,
@@ -101,7 +103,7 @@ fn doubled(n: u32, k: u32) -> [u32; 9]
 }
 
 // A wide number with `count` tens multiplied in.
-#[derive(Drop)]
+#[derive(Clone, Copy)]
 struct Tens {
     limbs: [u32; 9],
     count: u32,
@@ -159,7 +161,7 @@ fn below(num: [u32; 9], den: [u32; 9], left: u32) -> Tens
 }
 
 // A quotient of few digits, and what is left.
-#[derive(Drop)]
+#[derive(Clone, Copy)]
 struct Digit {
     digit: u32,
     rest: [u32; 9],
@@ -216,7 +218,7 @@ fn hundreds(num: [u32; 9], den: [u32; 9]) -> u32
 }
 
 // A figure's text: the first `len` of `bytes`; the others are 0.
-#[derive(Drop)]
+#[derive(Clone, Copy)]
 pub struct Figure {
     pub bytes: [u8; 8],
     pub len: usize,

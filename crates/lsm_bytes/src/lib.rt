@@ -1,4 +1,6 @@
 // Bounds-checked reads of the numbers that a file is made of. Every read answers: the number, or that it passes the end.
+#![tactic(auto)]
+
 ghost use Rattle.std.specs.Prelude.{◌≡◌, [], ◌∷◌, ℕ, ◌<◌};
 ghost use Rattle.lsm_format.specs.Code.{order_of};
 ghost use Rattle.lsm_format.specs.Numbers.{little, big, value_of, u8_at, u16_at, u32_at, i32_at, f64_bits_at, signed32};
@@ -6,32 +8,32 @@ ghost use Rattle.lsm_bytes.specs.Code.{u8_of, u16_of, u32_of, i32_of, f64_bits_o
 
 use lsm_format::types::Endian;
 
-#[derive(Drop)]
+#[derive(Clone, Copy)]
 pub enum U8 {
     Value(u8),
     Parse,
 }
 
-#[derive(Drop)]
+#[derive(Clone, Copy)]
 pub enum U16 {
     Value(u16),
     Parse,
 }
 
-#[derive(Drop)]
+#[derive(Clone, Copy)]
 pub enum U32 {
     Value(u32),
     Parse,
 }
 
-#[derive(Drop)]
+#[derive(Clone, Copy)]
 pub enum I32 {
     Value(i32),
     Parse,
 }
 
 // The 64 bits of an f64. A NaN's pattern is no float here, so the bits are handed on as they are.
-#[derive(Drop)]
+#[derive(Clone, Copy)]
 pub enum F64Bits {
     Value(u64),
     Parse,

@@ -1,5 +1,7 @@
-// The C interface. Every number has 64 bits; a slice comes as pointer and length. Every function returns document 01's number, 0
-// where it accepts, and overwrites the whole of `answer`: with the answer, or with a refusal's row and zeros after it.
+// The C interface; `lsm_c_c` exports it. Every number has 64 bits; a slice comes as pointer and length. Every function returns document
+// 01's number, 0 where it accepts, and overwrites the whole of `answer`: with the answer, or with a refusal's row and zeros after it.
+#![tactic(auto)]
+
 ghost use Rattle.lsm_channel_colors.specs.Code.{answer_of};
 ghost use Rattle.lsm_c.specs.Calls.{OpenedBy, Answered, LookedUp};
 
@@ -12,8 +14,7 @@ use lsm_words::description::{DESCRIPTION_WORDS, read_description};
 pub mod pictures;
 
 // Opens a file and writes its strips into the table.
-#[unsafe(no_mangle)]
-pub extern "C" fn lsm_open(
+pub fn lsm_open(
     file: &[u8],
     table: &mut [usize],
     answer: &mut [usize; OPEN_WORDS],
@@ -41,8 +42,7 @@ fn look_up(
 }
 
 // The colour and name of a channel. The name's text is written to `name`.
-#[unsafe(no_mangle)]
-pub extern "C" fn lsm_channel(
+pub fn lsm_channel(
     file: &[u8],
     description: &[usize; DESCRIPTION_WORDS],
     index: usize,

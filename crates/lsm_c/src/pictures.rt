@@ -49,8 +49,7 @@ fn region_by(
 }
 
 // A whole picture. Its samples are written to `out`, little-endian, row by row.
-#[unsafe(no_mangle)]
-pub extern "C" fn lsm_plane(
+pub fn lsm_plane(
     file: &[u8],
     description: &[usize; DESCRIPTION_WORDS],
     table: &[usize],
@@ -69,8 +68,7 @@ pub extern "C" fn lsm_plane(
 }
 
 // A rectangle of a picture: column x, row y, w columns and h rows.
-#[unsafe(no_mangle)]
-pub extern "C" fn lsm_region(
+pub fn lsm_region(
     file: &[u8],
     description: &[usize; DESCRIPTION_WORDS],
     table: &[usize],

@@ -1,4 +1,6 @@
 // Channel colours and names.
+#![tactic(auto)]
+
 mod tables;
 
 ghost use Rattle.std.specs.Prelude.{◌≡◌, ◌+◌, ◌*◌, ◌≤◌, length, take, drop};
@@ -19,33 +21,33 @@ use utf8::Decoded;
 const COLOR_WORD: usize = 4;
 
 // A channel's display colour: red, green and blue as the file has them.
-#[derive(Drop)]
+#[derive(Clone, Copy)]
 pub enum Color {
     Absent,
     Rgb(u8, u8, u8),
 }
 
 // A channel's name: its bytes are in the lent buffer, its length is here.
-#[derive(Drop)]
+#[derive(Clone, Copy)]
 pub enum Name {
     Absent,
     Length(usize),
 }
 
-#[derive(Drop)]
+#[derive(Clone, Copy)]
 pub struct ChannelMeta {
     pub color: Color,
     pub name: Name,
 }
 
-#[derive(Drop)]
+#[derive(Clone, Copy)]
 pub enum ChannelAnswer {
     Found(ChannelMeta),
     Refused(Refusal),
 }
 
 // What the file states of a channel: its colour, and where its name stands.
-#[derive(Drop)]
+#[derive(Clone, Copy)]
 struct Stated {
     color: Color,
     name: Record,

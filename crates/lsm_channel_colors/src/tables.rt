@@ -15,21 +15,21 @@ const TABLE_POINTERS: usize = 12;
 const MAX_NAME_BYTES: usize = 1024;
 
 // A signed number that can be used, or that there is none.
-#[derive(Drop)]
+#[derive(Clone, Copy)]
 pub(crate) enum Count {
     Value(usize),
     Nothing,
 }
 
 // The two pointers, counted from the block.
-#[derive(Drop)]
+#[derive(Clone, Copy)]
 pub(crate) enum Pointers {
     Absent,
     At { colors: i32, names: i32 },
 }
 
 // A name's record: where its bytes start and how many they are.
-#[derive(Drop)]
+#[derive(Clone, Copy)]
 pub(crate) enum Record {
     Absent,
     At { start: usize, len: usize },

@@ -19,7 +19,7 @@ const SIZE_AT: usize = 4;
 // The least length of a block: its dimensions end here.
 const DIMENSIONS_END: usize = 28;
 
-#[derive(Drop)]
+#[derive(Clone, Copy)]
 pub(crate) enum LengthAnswer {
     Length(usize),
     Refused(Refusal),

@@ -1,4 +1,6 @@
 // The CZ-LSM-Info block: dimensions, voxel sizes, the channel block's place, positions and tiles.
+#![tactic(auto)]
+
 mod header;
 
 ghost use Rattle.std.specs.Prelude.{◌≡◌, ◌+◌, ◌≤◌, leb, pos, length};
@@ -47,7 +49,7 @@ const DIM_M_AT: usize = 268;
 const COUNTS_END: usize = 272;
 
 // The TIFF entry that announces the block.
-#[derive(Drop)]
+#[derive(Clone, Copy)]
 pub struct CzTag {
     // Where the block stands in the file.
     pub offset: usize,
@@ -55,7 +57,7 @@ pub struct CzTag {
     pub declared_bytes: usize,
 }
 
-#[derive(Drop)]
+#[derive(Clone, Copy)]
 pub struct CzInfo {
     pub dim_x: u32,
     pub dim_y: u32,
@@ -69,14 +71,14 @@ pub struct CzInfo {
     pub calibration: Calibration,
 }
 
-#[derive(Drop)]
+#[derive(Clone, Copy)]
 pub enum CzAnswer {
     Info(CzInfo),
     Refused(Refusal),
 }
 
 // The dimensions as the block states them: any of them may be negative.
-#[derive(Drop)]
+#[derive(Clone, Copy)]
 struct Extents {
     x: i32,
     y: i32,
@@ -85,31 +87,31 @@ struct Extents {
     time: i32,
 }
 
-#[derive(Drop)]
+#[derive(Clone, Copy)]
 enum ExtentsAnswer {
     Extents(Extents),
     Refused(Refusal),
 }
 
-#[derive(Drop)]
+#[derive(Clone, Copy)]
 enum VoxelsAnswer {
     Sizes(Calibration),
     Refused(Refusal),
 }
 
-#[derive(Drop)]
+#[derive(Clone, Copy)]
 enum ChannelAnswer {
     Block(ChannelBlock),
     Refused(Refusal),
 }
 
-#[derive(Drop)]
+#[derive(Clone, Copy)]
 struct Shots {
     p: i32,
     m: i32,
 }
 
-#[derive(Drop)]
+#[derive(Clone, Copy)]
 enum ShotsAnswer {
     Shots(Shots),
     Refused(Refusal),

@@ -1,4 +1,6 @@
 // The description of a file: what its first full page and its CZ block make, and what is asked of it.
+#![tactic(auto)]
+
 ghost use Rattle.std.specs.Prelude.{◌≡◌, not, ◌||◌, List, ℕ, ◌<◌, max, leb};
 ghost use Rattle.lsm_format.specs.Code.{order_of, kind_of, check_of};
 ghost use Rattle.lsm_format.specs.Numbers.{Order};
@@ -19,7 +21,7 @@ use lsm_format::types::{ChannelBlock, DType, Dims5, Endian};
 use lsm_positions::{ExpectedPages, LayoutAnswer, LsmLayout};
 
 // What a file says of its pictures, by value: it can be kept, and handed in again with any file.
-#[derive(Drop)]
+#[derive(Clone, Copy)]
 pub struct Description {
     pub endian: Endian,
     pub dtype: DType,
@@ -41,7 +43,7 @@ pub fn channel(buf: &[u8], d: Description, channel: usize, name: &mut [u8]) -> C
     read_channel(buf, block, endian, dims.c, channel, name)
 }
 
-#[derive(Drop)]
+#[derive(Clone, Copy)]
 pub enum SampleAnswer {
     Kind(DType),
     Refused(Refusal),
@@ -142,7 +144,7 @@ fn layout_for(info: CzInfo, pages: usize) -> LayoutAnswer
     }
 }
 
-#[derive(Drop)]
+#[derive(Clone, Copy)]
 pub enum DescriptionAnswer {
     Described(Description),
     Refused(Refusal),

@@ -1,4 +1,6 @@
 // One image file directory: its entries, what they state, and what pages agree on.
+#![tactic(auto)]
+
 ghost use Rattle.std.specs.Prelude.{◌≡◌, List, true, ℕ, ◌≤◌};
 ghost use Rattle.lsm_format.specs.Answer.{bind, need, decode, unsupported};
 ghost use Rattle.lsm_format.specs.Code.{order_of, check_of};
@@ -15,14 +17,14 @@ use lsm_format::types::Endian;
 use lsm_values::{ArrayAnswer, Scalar, StripArray, Width, read_array, read_scalar, tiff_type_size};
 
 // The CZ-LSM-Info entry: where its block stands and how many bytes it declares.
-#[derive(Drop)]
+#[derive(Clone, Copy)]
 pub enum CzEntry {
     Absent,
     Block(u32, usize),
 }
 
 // What a directory states.
-#[derive(Drop)]
+#[derive(Clone, Copy)]
 pub struct Directory {
     pub new_subfile_type: u32,
     pub width: u32,
@@ -62,7 +64,7 @@ pub fn plain_directory() -> Directory
 }
 
 // The tags of scalars that are used.
-#[derive(Drop)]
+#[derive(Clone, Copy)]
 pub enum Field {
     NewSubfileType,
     ImageWidth,
@@ -74,7 +76,7 @@ pub enum Field {
     SampleFormat,
 }
 
-#[derive(Drop)]
+#[derive(Clone, Copy)]
 pub enum Tag {
     Field(Field),
     StripOffsets,
@@ -103,7 +105,7 @@ pub fn tag_of(tag: u16) -> Tag
 }
 
 // What an entry states.
-#[derive(Drop)]
+#[derive(Clone, Copy)]
 pub enum Value {
     Subfile(u32),
     Width(u32),
@@ -120,7 +122,7 @@ pub enum Value {
 }
 
 // An entry is read apart from the directory that it goes into, so that a long chain does not carry directories through its answers.
-#[derive(Drop)]
+#[derive(Clone, Copy)]
 pub enum EntryAnswer {
     Value(Value),
     Refused(Refusal),
@@ -279,7 +281,7 @@ pub fn read_entry(buf: &[u8], at: usize, e: Endian) -> EntryAnswer
 }
 
 // How many entries a directory has, and where the next directory stands.
-#[derive(Drop)]
+#[derive(Clone, Copy)]
 pub enum Ends {
     At(usize, usize),
     Parse,
@@ -300,7 +302,7 @@ pub fn directory_ends(buf: &[u8], place: usize, e: Endian) -> Ends
 }
 
 // The first full page, once there is one.
-#[derive(Drop)]
+#[derive(Clone, Copy)]
 pub enum First {
     Absent,
     Page(Directory),

@@ -4,7 +4,7 @@ use native.Mathlib.Nat.{add-zero, zero-add, add-suc, suc-add, add-mul, suc-mul, 
 use native.Mathlib.Numerals.{add-one}
 use native.Mathlib.Omega.{arith}
 use mathlib.Core.Path.{◌≡◌, refl, sym, ap, ◌∙◌}
-use mathlib.Core.Bool.{Bool, true, false, not, ◌&&◌, and_false}
+use mathlib.Core.Bool.{Bool, true, false, not, ◌&&◌, and-false}
 use mathlib.Core.Option.{Option, none, some}
 use mathlib.Core.List.{List, [], ◌∷◌, ◌++◌, append_assoc, append-nil}
 use lib.Dec.{leb, ltb, eqb}
@@ -390,7 +390,7 @@ pub page_missing : (d : Description) (words page : ℕ) → words < strips_per_p
 page_missing d words page h =
     let q : (page + 1) * strips_per_page d ≡ page * strips_per_page d + strips_per_page d = rw (add-one, suc-mul) in
     ap (λ (b : Bool). not (eqb (strips_per_page d) 0) && b) (lt-leb (2 * ((page + 1) * strips_per_page d)) words (omega arith))
-    ∙ and_false (not (eqb (strips_per_page d) 0))
+    ∙ and-false (not (eqb (strips_per_page d) 0))
 
 -- a channel's strips are in the page
 pub channel_in_lem : (d : Description) (words page c : ℕ) → c < d.dims.c → 2 * (page * strips_per_page d + strips_per_page d) ≤ words

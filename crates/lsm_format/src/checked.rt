@@ -4,7 +4,7 @@ ghost use Rattle.lsm_format.specs.Code.{word_of};
 ghost use Rattle.lsm_format.specs.Words.{word};
 
 // Rust's `Option<usize>`: a number, or that it passes 64 bits.
-#[derive(Drop)]
+#[derive(Clone, Copy)]
 pub enum Word {
     Value(usize),
     Overflow,

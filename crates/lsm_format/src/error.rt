@@ -1,7 +1,7 @@
 // Document 01's refusals.
 ghost use Rattle.lsm_format.specs.Code.{row_of, Numbered};
 
-#[derive(Drop)]
+#[derive(Clone, Copy)]
 pub enum Refusal {
     // The container is malformed: a read past the end, a wrong header.
     Parse,
@@ -33,7 +33,7 @@ pub enum Refusal {
 }
 
 // A refusal's number and values in document 01's order: the first `len` of `numbers`; the others are 0.
-#[derive(Drop)]
+#[derive(Clone, Copy)]
 pub struct RefusalNumbers {
     pub numbers: [usize; 5],
     pub len: usize,
@@ -77,7 +77,7 @@ impl Refusal {
 }
 
 // What a check with no value answers.
-#[derive(Drop)]
+#[derive(Clone, Copy)]
 pub enum Check {
     Accepted,
     Refused(Refusal),

@@ -9,7 +9,7 @@ use crate::error::{Check, Refusal};
 use crate::guard::MAX_DECODED_PLANE_BYTES;
 
 // Byte order of the file.
-#[derive(Drop)]
+#[derive(Clone, Copy)]
 pub enum Endian {
     // "II"
     Little,
@@ -18,7 +18,7 @@ pub enum Endian {
 }
 
 // The type of a sample.
-#[derive(Drop)]
+#[derive(Clone, Copy)]
 pub enum DType {
     U8,
     U16,
@@ -41,7 +41,7 @@ impl DType {
 }
 
 // Time points, channels, depth, height and width of every scene of a file.
-#[derive(Drop)]
+#[derive(Clone, Copy)]
 pub struct Dims5 {
     pub t: usize,
     pub c: usize,
@@ -51,7 +51,7 @@ pub struct Dims5 {
 }
 
 // The size of a picture.
-#[derive(Drop)]
+#[derive(Clone, Copy)]
 pub enum PlaneBytes {
     Bytes(usize),
     Refused(Refusal),
@@ -96,14 +96,14 @@ impl Dims5 {
 }
 
 // Where the channel block stands, if the file has one.
-#[derive(Drop)]
+#[derive(Clone, Copy)]
 pub enum ChannelBlock {
     Absent,
     At(usize),
 }
 
 // A rectangle of a picture: its left column and top row, its width and height, in samples.
-#[derive(Drop)]
+#[derive(Clone, Copy)]
 pub struct PixelRect {
     pub x: usize,
     pub y: usize,
@@ -130,7 +130,7 @@ impl PixelRect {
 }
 
 // Which picture is asked for.
-#[derive(Drop)]
+#[derive(Clone, Copy)]
 pub struct Coordinate {
     pub scene: usize,
     pub t: usize,

@@ -1,5 +1,7 @@
 // lsm-list: prints what the LSM file on standard input says of its pictures. One byte more than the longest file is read, so that a
 // longer one is told from it.
+#![tactic(auto)]
+
 use libc::STDIN_FILENO;
 use lsm_printout::print;
 

@@ -1,5 +1,7 @@
 // Lists several files, one after another: on standard input stand, for each, its length as four bytes, the lowest first, and then
 // its bytes. tools/list_files.py makes them.
+#![tactic(auto)]
+
 ghost use Rattle.std.specs.Prelude.{◌≡◌, ◌+◌, ◌≤◌, ◌<◌, length};
 
 use libc::STDIN_FILENO;

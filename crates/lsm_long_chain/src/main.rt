@@ -1,6 +1,8 @@
 // Opens a file of 1,000,000 directories and one of 1,000,001, which are too large to be stored: "The 1,000,001st visited directory is
 // Parse; exactly 1,000,000 pass." A directory has no entry, so that all are full pages which agree, and what follows on the chain
 // is a sample kind that isn't taken: 3. host/compare asks the Rust the same.
+#![tactic(auto)]
+
 ghost use Rattle.std.specs.Prelude.{◌≡◌, ◌+◌, ◌≤◌, ◌<◌, length};
 
 use libc::STDOUT_FILENO;

@@ -2,6 +2,8 @@
 //
 // One acquisition can be split into several shots: a mosaic as tiles, or several stage positions. Each owns its own pages and is a
 // scene. A scene may be scanned again and again: it has its pages time point after time point, one for each focal plane.
+#![tactic(auto)]
+
 ghost use Rattle.std.specs.Prelude.{◌≡◌, ℕ, ◌+◌, ◌*◌};
 ghost use Rattle.lsm_format.specs.Code.{word_of};
 ghost use Rattle.lsm_format.specs.Rectangle.{coordinate};
@@ -12,7 +14,7 @@ ghost use Rattle.lsm_positions.specs.Code.{layout_of, count_of, answer_of, pages
 use lsm_format::checked::{Word, checked_add, checked_mul};
 use lsm_format::error::Refusal;
 
-#[derive(Drop)]
+#[derive(Clone, Copy)]
 pub struct LsmLayout {
     // How many scenes the file holds.
     pub scenes: usize,
@@ -22,26 +24,26 @@ pub struct LsmLayout {
     pub pages_per_time_point: usize,
 }
 
-#[derive(Drop)]
+#[derive(Clone, Copy)]
 pub enum LayoutAnswer {
     Layout(LsmLayout),
     Refused(Refusal),
 }
 
-#[derive(Drop)]
+#[derive(Clone, Copy)]
 pub enum ExpectedPages {
     Pages(usize),
     Refused(Refusal),
 }
 
 // Rust's `Option<usize>`: none for a scene that is not there, and where the number overflows.
-#[derive(Drop)]
+#[derive(Clone, Copy)]
 pub enum PageIndex {
     Page(usize),
     Outside,
 }
 
-#[derive(Drop)]
+#[derive(Clone, Copy)]
 pub enum Count {
     Value(u32),
     Negative,

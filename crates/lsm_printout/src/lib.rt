@@ -1,4 +1,6 @@
 // What is printed of a file.
+#![tactic(auto)]
+
 mod channels;
 mod lines;
 mod sizes;

@@ -18,7 +18,7 @@ use lsm_format::types::Endian;
 use lsm_values::{StripArray, strip_value};
 
 // What the directories visited so far tell.
-#[derive(Drop)]
+#[derive(Clone, Copy)]
 pub struct Walk {
     pub visited: usize,
     pub pages: usize,
@@ -26,7 +26,7 @@ pub struct Walk {
     pub cz: CzEntry,
 }
 
-#[derive(Drop)]
+#[derive(Clone, Copy)]
 pub enum WalkAnswer {
     Walked(Walk),
     Refused(Refusal),
@@ -104,7 +104,7 @@ fn visit(buf: &[u8], place: usize, visited: usize, e: Endian) -> Ends
 }
 
 // A place of the chain that a circle comes back to, and the visit at which the mark moves on.
-#[derive(Drop)]
+#[derive(Clone, Copy)]
 pub struct Mark {
     pub place: usize,
     pub until: usize,

@@ -7,7 +7,7 @@ use lsm_bytes::{U16, read_u16};
 use lsm_format::error::Refusal;
 use lsm_format::types::Endian;
 
-#[derive(Drop)]
+#[derive(Clone, Copy)]
 pub enum HeaderAnswer {
     Order(Endian),
     Refused(Refusal),

@@ -1,4 +1,6 @@
 // Opening a file.
+#![tactic(auto)]
+
 mod chain;
 pub mod header;
 pub mod open;

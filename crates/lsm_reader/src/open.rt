@@ -65,14 +65,14 @@ fn table_words(w: Walk) -> usize
 }
 
 // What opening gives: the description, how many directories were visited, and how many words of the table were written.
-#[derive(Drop)]
+#[derive(Clone, Copy)]
 pub struct Opened {
     pub description: Description,
     pub visited: usize,
     pub words: usize,
 }
 
-#[derive(Drop)]
+#[derive(Clone, Copy)]
 pub enum OpenAnswer {
     Opened(Opened),
     Refused(Refusal),

@@ -14,7 +14,7 @@ use lsm_format::types::{Endian, PixelRect};
 use lsm_strips::StripRun;
 
 // Where a walk over the strips stands: a strip, and how many bytes past its start; these may lead into later strips.
-#[derive(Drop)]
+#[derive(Clone, Copy)]
 pub struct Cursor {
     pub strip: usize,
     pub into: usize,

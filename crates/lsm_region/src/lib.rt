@@ -1,4 +1,6 @@
 // Pictures and rectangles of them, read from the strips of a file.
+#![tactic(auto)]
+
 mod copier;
 
 ghost use Rattle.std.specs.Prelude.{length};
@@ -18,14 +20,14 @@ use lsm_format::types::{Coordinate, PixelRect};
 use lsm_strips::{Found, StripRun, plane_from, region_from};
 
 // The rows and columns of what was read, and how many bytes were written.
-#[derive(Drop)]
+#[derive(Clone, Copy)]
 pub struct Picture {
     pub height: usize,
     pub width: usize,
     pub bytes: usize,
 }
 
-#[derive(Drop)]
+#[derive(Clone, Copy)]
 pub enum PictureAnswer {
     Read(Picture),
     Refused(Refusal),

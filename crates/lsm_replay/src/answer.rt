@@ -5,7 +5,7 @@ use lsm_format::error::Refusal;
 use vectors::text::Row;
 
 // The first `len` of `numbers`.
-#[derive(Drop)]
+#[derive(Clone, Copy)]
 pub struct Answer {
     pub numbers: [usize; 16],
     pub len: usize,

@@ -1,6 +1,8 @@
 // Asks the ported functions what standard input says that the Rust was asked, and compares every number of the answers. A line
 // is as vectors::text has it; tools/record writes the list, and its README.md says what the numbers are. The list begins with lines that
 // are wrong on purpose (tools/wrong_lines.py).
+#![tactic(auto)]
+
 ghost use Rattle.std.specs.Prelude.{◌≡◌, true, ◌<◌, ◌≤◌, length};
 
 use crate::cz::block;
@@ -29,7 +31,7 @@ fn agrees(row: Row, bytes: &[u8]) -> bool
 }
 
 // A line: its letter, whether the answer is as it says, and where the next begins.
-#[derive(Drop)]
+#[derive(Clone, Copy)]
 struct Line {
     kind: u8,
     agrees: bool,
@@ -50,7 +52,7 @@ fn line_at(text: &[u8], at: usize) -> Line
     }
 }
 
-#[derive(Drop)]
+#[derive(Clone, Copy)]
 struct Tallies {
     ground: Tally,
     voxels: Tally,

@@ -2,6 +2,8 @@
 // number with the Rust's answers, and the lent memory past an answer with what was in it. A line is as vectors::text has it, with the
 // letter `o` or `n`, or `w` for a lookup in C with another word in the description. The list begins with lines that are wrong on purpose
 // (tools/wrong_lines.py).
+#![tactic(auto)]
+
 ghost use Rattle.std.specs.Prelude.{◌≡◌, true, ◌<◌, ◌≤◌, length};
 
 use crate::lookup::lookup;
@@ -43,7 +45,7 @@ fn agrees_in_c(letter: u8, said: &[usize], file: &[u8]) -> bool
 }
 
 // A line: its letter, whether the answer and the C function's are as it says, and where the next begins.
-#[derive(Drop)]
+#[derive(Clone, Copy)]
 struct Told {
     letter: u8,
     agrees: bool,
@@ -69,7 +71,7 @@ fn told_at(text: &[u8], at: usize) -> Told
 }
 
 // How the functions' answers compare, and the C functions'.
-#[derive(Drop)]
+#[derive(Clone, Copy)]
 struct Tallies {
     openings: Tally,
     lookups: Tally,

@@ -2,6 +2,8 @@
 // answer with the Rust's, sample by sample, and the lent memory past an answer with what was in it. A line is as vectors::text has it,
 // with the letter `p` or `r`, or `q` or `h` for the same in C with a description and a table that the line hands in. The list begins with lines
 // that are wrong on purpose (tools/wrong_lines.py).
+#![tactic(auto)]
+
 ghost use Rattle.std.specs.Prelude.{◌≡◌, true, ◌<◌, ◌≤◌, length};
 
 use crate::picture::{Both, answers};
@@ -25,7 +27,7 @@ fn asked(letter: u8, said: &[usize], file: &[u8]) -> Both
 }
 
 // A line: its letter, whether the answer and the C function's are as it says, and where the next begins.
-#[derive(Drop)]
+#[derive(Clone, Copy)]
 struct Told {
     letter: u8,
     agrees: bool,
@@ -52,7 +54,7 @@ fn told_at(text: &[u8], at: usize) -> Told
 }
 
 // How the functions' answers compare, and the C functions'.
-#[derive(Drop)]
+#[derive(Clone, Copy)]
 struct Tallies {
     planes: Tally,
     rectangles: Tally,

@@ -113,7 +113,7 @@ fn answered(
 }
 
 // Whether the function's answer is the line's, and the C function's.
-#[derive(Drop)]
+#[derive(Clone, Copy)]
 pub struct Both {
     pub agrees: bool,
     pub in_c: bool,

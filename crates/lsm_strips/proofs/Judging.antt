@@ -4,7 +4,7 @@ use native.Mathlib.Nat.{not-suc-le-zero, suc-mul, add-mul, one-mul, zero-mul, mu
 use native.Mathlib.Numerals.{add-one}
 use native.Mathlib.Omega.{arith}
 use mathlib.Core.Path.{◌≡◌, refl, sym, ap, ap₂, ◌∙◌}
-use mathlib.Core.Bool.{Bool, true, false, not, ◌&&◌, and_false}
+use mathlib.Core.Bool.{Bool, true, false, not, ◌&&◌, and-false}
 use mathlib.Core.Option.{Option, none, some}
 use mathlib.Core.List.{List}
 use lib.Dec.{eqb, ltb, leb}
@@ -90,7 +90,7 @@ module _ (row : ℕ) (t : List ℕ) (i n height : ℕ) (any : 0 < n) where
   unfolding whole_rows_of
   rows_over h =
       sym (ap (λ (b : Bool). whole_strips row t i n && b) (ne_eqb (rows_in row t i n) height (λ e. omega (arith, rows_step row t i n any)))
-      ∙ and_false (whole_strips row t i n))
+      ∙ and-false (whole_strips row t i n))
 
   pub rows_next : count_of t i % row ≡ 0 → count_of t i / row ≤ height
       → whole_rows_of row t i n height ≡ whole_rows_of row t (i + 1) (n - 1) (height - count_of t i / row)
@@ -186,7 +186,7 @@ module _ (all one : ℕ → Bool) (step : (m : ℕ) → all (suc m) ≡ (all m &
   one_fails k zero l h = absurd (not-suc-le-zero l)
   one_fails k (suc m) l h =
       step m ∙ below k m l (λ u. ap (λ (b : Bool). b && one m) (one_fails k m u h))
-      (λ e. ap (λ (b : Bool). all m && b) (ap one (sym e) ∙ h) ∙ and_false (all m))
+      (λ e. ap (λ (b : Bool). all m && b) (ap one (sym e) ∙ h) ∙ and-false (all m))
 
 channels_all : (d : Description) (t : List ℕ) (page m : ℕ) → ((k : ℕ) → k < m → whole_channel d t (strips_on d page k) ≡ true) → whole_channels d t page m ≡ true
 unfolding whole_channels
@@ -241,7 +241,7 @@ module _ (d : Description) (t : List ℕ) where
   whole_wide e =
       sym (ap (λ (b : Bool). not (eqb (row_bytes d) 0) && (b && (ltb (pages d.layout) (2 ^ 64) && whole_pages d t (pages d.layout))))
       (le-ltb (row_bytes d) (2 ^ 64) (word_none _ e))
-      ∙ and_false (not (eqb (row_bytes d) 0)))
+      ∙ and-false (not (eqb (row_bytes d) 0)))
 
   module _ (row : ℕ) (w : word (row_bytes d) ≡ some row) where
     pub whole_empty : row ≡ 0 → false ≡ whole_rows d t

@@ -1,4 +1,6 @@
 // The strips that plane and region read: all their checks but the last, in order, and which strips the picture has.
+#![tactic(auto)]
+
 mod checks;
 mod pages;
 mod strips;
@@ -17,14 +19,14 @@ use lsm_format::error::{Check, Refusal};
 use lsm_format::types::{Coordinate, PixelRect, checked_region};
 
 // Strips that follow one another in the table: the first, and how many they are.
-#[derive(Drop)]
+#[derive(Clone, Copy)]
 pub struct StripRun {
     pub first: usize,
     pub count: usize,
 }
 
 // The strips that a picture is read from, or why there are none.
-#[derive(Drop)]
+#[derive(Clone, Copy)]
 pub enum Found {
     Strips(StripRun),
     Refused(Refusal),

@@ -1,4 +1,6 @@
 // The values of a directory's entries: their types, where they stand, single numbers and strip arrays.
+#![tactic(auto)]
+
 ghost use Rattle.std.specs.Prelude.{◌≡◌, ℕ, ◌≤◌, ◌<◌, get_or};
 ghost use Rattle.std.proofs.Math.Option.{none, some};
 ghost use Rattle.lsm_format.specs.Code.{order_of};
@@ -13,7 +15,7 @@ use lsm_format::error::Refusal;
 use lsm_format::types::Endian;
 
 // The bytes of a number.
-#[derive(Drop)]
+#[derive(Clone, Copy)]
 pub enum Width {
     One,
     Two,
@@ -21,7 +23,7 @@ pub enum Width {
 }
 
 // How a TIFF type is read as a number, if it is.
-#[derive(Drop)]
+#[derive(Clone, Copy)]
 pub enum Integer {
     Of(Width),
     Nothing,
@@ -69,7 +71,7 @@ pub fn read_number(buf: &[u8], off: usize, width: Width, e: Endian) -> U32
     }
 }
 
-#[derive(Drop)]
+#[derive(Clone, Copy)]
 pub enum Place {
     At(usize),
     Parse,
@@ -89,7 +91,7 @@ fn value_place(buf: &[u8], size: usize, count: u32, off: usize, e: Endian) -> Pl
     }
 }
 
-#[derive(Drop)]
+#[derive(Clone, Copy)]
 pub enum Scalar {
     Value(u32),
     Refused(Refusal),
@@ -132,14 +134,14 @@ pub fn read_scalar(buf: &[u8], ty: u16, count: u32, off: usize, e: Endian) -> Sc
 }
 
 // A strip array in the file: `count` numbers from a place on.
-#[derive(Drop)]
+#[derive(Clone, Copy)]
 pub struct StripArray {
     pub place: usize,
     pub count: usize,
     pub width: Width,
 }
 
-#[derive(Drop)]
+#[derive(Clone, Copy)]
 pub enum ArrayAnswer {
     Array(StripArray),
     Decode,

@@ -103,7 +103,7 @@ fn kind_of(word: usize) -> SampleAnswer
     }
 }
 
-#[derive(Drop)]
+#[derive(Clone, Copy)]
 enum BlockAnswer {
     Block(ChannelBlock),
     Refused(Refusal),

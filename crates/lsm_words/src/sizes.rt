@@ -44,7 +44,7 @@ pub(crate) fn size_words(s: Calibration) -> [usize; 5]
 
 // ---- and back
 
-#[derive(Drop)]
+#[derive(Clone, Copy)]
 pub(crate) enum FloatAnswer {
     Value(f32),
     Refused(Refusal),
@@ -63,7 +63,7 @@ fn float_of(word: usize) -> FloatAnswer
     FloatAnswer::Value(f32::from_bits(word as u32))
 }
 
-#[derive(Drop)]
+#[derive(Clone, Copy)]
 pub(crate) enum StepAnswer {
     Step(ZStep),
     Refused(Refusal),
@@ -88,7 +88,7 @@ fn step_of(choice: usize, bits: usize) -> StepAnswer
     }
 }
 
-#[derive(Drop)]
+#[derive(Clone, Copy)]
 pub(crate) enum SizeAnswer {
     Size(Calibration),
     Refused(Refusal),

@@ -3,3 +3,4 @@
 // bytes that are read of three small files, G, H and J, and proofs/Handed.antt what plane, region and lookup answer where description,
 // table and file don't belong together. These are computed from the definitions alone. proofs/Spare.antt says of G what lsm_overwrite
 // states of every file.
+#![tactic(auto)]

@@ -60,14 +60,14 @@ narrow_fits (fin s m e) = round-fits binary32 s (m * up e) (down e)
 tested : (b : ℕ) → nan_bits binary64 b ≡ ltb 0x7ff0_0000_0000_0000 (bit_and b 0x7fff_ffff_ffff_ffff)
 tested b = nan_bits_above binary64 b ∙ ap (ltb 0x7ff0_0000_0000_0000) (sym (and_mask b 63))
 
-is_nan : (v : Float) → is_nan v ≡ true → v ≡ nan
+is_nan_lem : (v : Float) → is_nan v ≡ true → v ≡ nan
 unfolding is_nan
-is_nan nan h = refl
-is_nan (inf s) h = absurd (false≢true h)
-is_nan (fin s m e) h = absurd (false≢true h)
+is_nan_lem nan h = refl
+is_nan_lem (inf s) h = absurd (false≢true h)
+is_nan_lem (fin s m e) h = absurd (false≢true h)
 
 pub pattern_nan : (b : ℕ) → 0x7ff0_0000_0000_0000 < bit_and b 0x7fff_ffff_ffff_ffff → of_bits binary64 b ≡ nan
-pattern_nan b h = is_nan (of_bits binary64 b) (sym (nan_bits_is binary64 b) ∙ tested b ∙ lt-ltb _ _ h)
+pattern_nan b h = is_nan_lem (of_bits binary64 b) (sym (nan_bits_is binary64 b) ∙ tested b ∙ lt-ltb _ _ h)
 
 pub refused : (b : ℕ) → 0x7ff0_0000_0000_0000 < bit_and b 0x7fff_ffff_ffff_ffff → nan ≡ micrometres b
 unfolding micrometres narrow mul

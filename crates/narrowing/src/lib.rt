@@ -1,4 +1,6 @@
 // From metres in f64 to micrometres in f32.
+#![tactic(auto)]
+
 ghost use Rattle.std.specs.Prelude.{◌≡◌, false, ◌+◌, ◌*◌, ◌^◌, ◌≤◌, ◌<◌};
 ghost use Rattle.std.specs.Float.{binary32, binary64};
 ghost use Rattle.std.specs.Float.Ieee.{of_bits, to_bits, of_fields};
@@ -74,7 +76,7 @@ pub fn narrow_bits(bits: u64) -> u32
     signed(sign, magnitude(exponent, fraction))
 }
 
-#[derive(Drop)]
+#[derive(Clone, Copy)]
 pub enum Micrometres {
     Value(f32),
     NotANumber,

@@ -1,4 +1,6 @@
 // Lossy decoding of UTF-8 into lent memory.
+#![tactic(auto)]
+
 ghost use Rattle.std.specs.Prelude.{◌≡◌, ◌-◌, ◌^◌, ◌<◌, ◌≤◌, min, length, drop};
 ghost use Rattle.lsm_format.specs.Utf8.{lossy, well_formed, followers_in, matched};
 ghost use Rattle.utf8.specs.Code.{decoded_of, Decoding};
@@ -9,7 +11,7 @@ use lsm_format::error::Refusal;
 const LARGEST: usize = 0xffff_ffff_ffff_ffff;
 
 // How many bytes were written, or why none were.
-#[derive(Drop)]
+#[derive(Clone, Copy)]
 pub enum Decoded {
     Length(usize),
     Refused(Refusal),
@@ -17,14 +19,14 @@ pub enum Decoded {
 
 // A row of Unicode's Table 3-7, as its first byte tells: how many bytes follow, and the range of the first that does. The
 // others are 80 to BF (hex) in every row.
-#[derive(Drop)]
+#[derive(Clone, Copy)]
 enum Row {
     Nothing,
     Begins { followers: usize, low: u8, high: u8 },
 }
 
 // What stands at a place, with the number of bytes after its first.
-#[derive(Drop)]
+#[derive(Clone, Copy)]
 enum Piece {
     Sequence(usize),
     Subpart(usize),
@@ -155,10 +157,10 @@ fn put(s: &[u8], at: usize, p: Piece, out: &mut [u8])
 {
     match p {
         Piece::Sequence(n) => {
-            bytes::copy(&s[at..at + n + 1], out);
+            out.copy_from_slice(&s[at..at + n + 1]);
         }
         Piece::Subpart(_) => {
-            bytes::copy(b"\xEF\xBF\xBD", out);
+            out.copy_from_slice(b"\xEF\xBF\xBD");
         }
     }
 }

@@ -1,6 +1,8 @@
 // Decodes the bytes of each line of standard input, and compares with the text that the line says. A line has the bytes, a
 // space and the text, both as vectors::text has bytes. tools/utf8_vectors.rs writes the list, and tools/wrong_lines.py begins it with lines
 // that are wrong on purpose.
+#![tactic(auto)]
+
 ghost use Rattle.std.specs.Prelude.{◌≡◌, true, ◌<◌, ◌≤◌, length};
 ghost use Rattle.lsm_format.specs.Utf8.{lossy};
 
@@ -20,7 +22,7 @@ fn agrees(bytes: &[u8], text: &[u8], out: &mut [u8]) -> bool
 }
 
 // A line: whether it agrees, and where the next begins.
-#[derive(Drop)]
+#[derive(Clone, Copy)]
 struct Line {
     agrees: bool,
     next: usize,
@@ -54,7 +56,7 @@ fn line_at(text: &[u8], at: usize) -> Line
     }
 }
 
-#[derive(Drop)]
+#[derive(Clone, Copy)]
 struct Tally {
     vectors: usize,
     differ: usize,

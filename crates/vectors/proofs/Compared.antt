@@ -1,7 +1,7 @@
 -- Laws of lists that are the same, of lists that are as they were, and of lists in parts. Assumes nothing.
 use Prim.Native.Nat.{ℕ, suc, ◌+◌, ◌-◌, ◌≤◌, ◌<◌}
 use mathlib.Core.Path.{◌≡◌, refl, sym, ap, ◌∙◌}
-use mathlib.Core.Bool.{Bool, true, false, ◌&&◌, and_false, false≢true}
+use mathlib.Core.Bool.{Bool, true, false, ◌&&◌, and-false, false≢true}
 use mathlib.Core.List.{List, [], ◌∷◌}
 use native.Mathlib.Numerals.{add-one}
 use native.Mathlib.Omega.{arith}
@@ -49,7 +49,7 @@ unfolding same
 same_long [] [] h = absurd (h refl)
 same_long [] (y ∷ ys) h = refl
 same_long (x ∷ xs) [] h = refl
-same_long (x ∷ xs) (y ∷ ys) h = rw (same_long xs ys (λ e. h (ap suc e))) (and_false (eqb x y))
+same_long (x ∷ xs) (y ∷ ys) h = rw (same_long xs ys (λ e. h (ap suc e))) (and-false (eqb x y))
 
 -- The lists are the same if they are from i on.
 pub record Same (a b : List ℕ) (i : ℕ) : Type 0 where
@@ -130,7 +130,7 @@ answer_none said number answer most e = rw e
 -- another number was returned
 pub answer_other : (said : List ℕ) (number : ℕ) (answer : List ℕ) (most : ℕ) → (get_or said 0 0 ≡ number → ⊥) → same_answer said number answer most ≡ false
 unfolding same_answer
-answer_other said number answer most e = rw (ne_eqb (get_or said 0 0) number e, and_false (ltb 0 (in_answer said most)))
+answer_other said number answer most e = rw (ne_eqb (get_or said 0 0) number e, and-false (ltb 0 (in_answer said most)))
 
 -- the number that is said: the words decide, n of them
 pub answer_words :

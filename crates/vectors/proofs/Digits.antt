@@ -1,7 +1,7 @@
 -- Laws of the numbers of a list, one for each step of a definition. Assumes nothing.
 use Prim.Native.Nat.{ℕ, zero, suc, ◌+◌, ◌-◌, ◌*◌, ◌^◌, ◌≤◌, ◌<◌, min}
 use mathlib.Core.Path.{◌≡◌, refl, sym, ap, ◌∙◌}
-use mathlib.Core.Bool.{Bool, true, false, cond, and_false}
+use mathlib.Core.Bool.{Bool, true, false, cond, and-false}
 use mathlib.Core.List.{List, [], ◌∷◌, ◌++◌, append_assoc, append-nil}
 use native.Mathlib.Numerals.{add-one}
 use native.Mathlib.Omega.{arith}
@@ -20,7 +20,7 @@ pub below : (low high b : ℕ) → b < low → within low high b ≡ false
 below low high b h = rw (lt-leb low b h)
 
 pub above : (low high b : ℕ) → high < b → within low high b ≡ false
-above low high b h = rw (lt-leb b high h) (and_false (leb low b))
+above low high b h = rw (lt-leb b high h) (and-false (leb low b))
 
 pub figure : (b : ℕ) → within 48 57 b ≡ true → b - 48 ≡ digit_of b
 unfolding digit_of
@@ -64,7 +64,7 @@ module _ (text : List ℕ) (value at d : ℕ) (e : d ≡ digit_of (get_or text a
   -- a digit too many
   pub number_full : 2 ^ 64 ≤ value * 16 + d → number value at (drop at text) ≡ (value, at)
   unfolding goes_on
-  number_full k = number_begins false (rw (← e, le-ltb (value * 16 + d) (2 ^ 64) k) (and_false (ltb d 16)))
+  number_full k = number_begins false (rw (← e, le-ltb (value * 16 + d) (2 ^ 64) k) (and-false (ltb d 16)))
 
 -- the text's end
 pub number_ends : (text : List ℕ) (value at : ℕ) → length text ≤ at → number value at (drop at text) ≡ (value, at)
@@ -105,7 +105,7 @@ numbers_stop (suc room) text at e = rw e
 pub numbers_bare : (room : ℕ) (text : List ℕ) (at next : ℕ) → next ≡ (number_at text (at + 1)).1 → next ≤ at + 1 → numbers room text at ≡ ([], at)
 unfolding numbers spaced
 numbers_bare zero text at next n h = refl
-numbers_bare (suc room) text at next n h = rw (← n, le-ltb (at + 1) next h, and_false (holds_at text at 32))
+numbers_bare (suc room) text at next n h = rw (← n, le-ltb (at + 1) next h, and-false (holds_at text at 32))
 
 -- no room
 pub numbers_full : (room : ℕ) (text : List ℕ) (at : ℕ) → room ≡ 0 → numbers room text at ≡ ([], at)

@@ -1,7 +1,7 @@
 -- Laws of the lines of a list, one for each step of a definition. Assumes nothing.
 use Prim.Native.Nat.{ℕ, zero, suc, ◌+◌, ◌-◌, ◌*◌, ◌≤◌, ◌<◌, min}
 use mathlib.Core.Path.{◌≡◌, refl, sym, ap, subst⁻¹, ◌∙◌}
-use mathlib.Core.Bool.{Bool, true, false, cond, and_false, and-eq-true_iff}
+use mathlib.Core.Bool.{Bool, true, false, cond, and-false, and-eq-true_iff}
 use mathlib.Core.List.{List, [], ◌∷◌, ◌++◌, append_assoc, append-nil}
 use native.Mathlib.Numerals.{add-one}
 use native.Mathlib.Omega.{arith}
@@ -27,7 +27,7 @@ module _ (text : List ℕ) (at high low : ℕ) (h : high ≡ digit_of (get_or te
 
   pub pair_low : 16 ≤ low → 256 ≡ pair_at text at
   unfolding pair_at
-  pair_low k = rw (← l, le-ltb low 16 k, and_false (ltb (digit_of (get_or text at 0)) 16))
+  pair_low k = rw (← l, le-ltb low 16 k, and-false (ltb (digit_of (get_or text at 0)) 16))
 
 -- past the text stands no digit
 no_digit : digit_of 0 ≡ 16
@@ -47,7 +47,7 @@ module _ (text : List ℕ) (at : ℕ) (star : holds_at text at 42 ≡ true) (n b
 
   pub run_byteless : 256 ≤ b → run_at text at ≡ ([], at)
   unfolding run_at
-  run_byteless k = rw (star, ← e, le-ltb b 256 k, and_false (ltb (pair_at text (at + 1)) 256))
+  run_byteless k = rw (star, ← e, le-ltb b 256 k, and-false (ltb (pair_at text (at + 1)) 256))
 
 pub run_countless : (text : List ℕ) (at : ℕ) → holds_at text at 42 ≡ true → (n : ℕ) → n ≡ pair_at text (at + 1) → 256 ≤ n → run_at text at ≡ ([], at)
 unfolding run_at
@@ -105,7 +105,7 @@ fits_nothing : (n room : ℕ) → n ≡ 0 → fits n room ≡ false
 fits_nothing n room e = rw e
 
 fits_over : (n room : ℕ) → room < n → fits n room ≡ false
-fits_over n room h = rw (lt-leb n room h) (and_false (ltb 0 n))
+fits_over n room h = rw (lt-leb n room h) (and-false (ltb 0 n))
 
 fits_facts : (n room : ℕ) → fits n room ≡ true → (0 < n) × (n ≤ room)
 fits_facts n room e =

@@ -27,7 +27,7 @@ pub fn holds(text: &[u8], at: usize, b: u8) -> bool
     }
 }
 
-#[derive(Drop)]
+#[derive(Clone, Copy)]
 pub(crate) struct Number {
     pub value: usize,
     pub next: usize,
@@ -63,7 +63,7 @@ pub(crate) fn number_at(text: &[u8], from: usize) -> Number
 }
 
 // What was read: how many, and where it ends.
-#[derive(Drop)]
+#[derive(Clone, Copy)]
 pub struct Field {
     pub count: usize,
     pub next: usize,

@@ -4,7 +4,7 @@ ghost use Rattle.vectors.specs.Tallies.{one_more};
 
 use libc::STDOUT_FILENO;
 
-#[derive(Drop)]
+#[derive(Clone, Copy)]
 pub struct Tally {
     pub cases: usize,
     pub differ: usize,

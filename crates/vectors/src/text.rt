@@ -30,7 +30,7 @@ fn pair(text: &[u8], at: usize) -> usize
 }
 
 // A byte as often as it stands one after the other; `times` is 0 where there is none.
-#[derive(Drop)]
+#[derive(Clone, Copy)]
 struct Run {
     times: usize,
     byte: u8,
@@ -130,7 +130,7 @@ fn tail_at(text: &[u8], at: usize, bytes: &mut [u8]) -> Field
 }
 
 // A line: its letter, how many numbers and bytes it has, and where the next begins. `count` is 0 where it hasn't the form.
-#[derive(Drop)]
+#[derive(Clone, Copy)]
 pub struct Line {
     pub kind: u8,
     pub count: usize,
@@ -177,7 +177,7 @@ pub fn line_at(text: &[u8], at: usize, numbers: &mut [usize], bytes: &mut [u8]) 
 }
 
 // A line of twenty numbers at most: the first `count` of `numbers` are its own.
-#[derive(Drop)]
+#[derive(Clone, Copy)]
 pub struct Row {
     pub kind: u8,
     pub numbers: [usize; 20],

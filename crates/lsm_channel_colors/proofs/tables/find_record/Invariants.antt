@@ -1,0 +1,14 @@
+use native.Mathlib.Omega.{arith}
+use mathlib.Core.Path.{◌≡◌, refl, sym, ◌∙◌}
+use Rattle.lsm_format.specs.Code.{order_of}
+use Rattle.lsm_format.specs.Channels.{record_of}
+use Rattle.lsm_format.proofs.Channels.{record_last, record_ends, record_next, record_inside}
+use Rattle.lsm_format.proofs.Told.{told}
+use Rattle.lsm_channel_colors.specs.Tables.{span_of}
+use Rattle.lsm_channel_colors.proofs.tables.find_record.Given as goal
+
+abbrev pub invariant-loop-left : goal.invariant-loop-left
+invariant-loop-left l = record_of (order_of l.endian) l.buf l.first l.channel ≡ record_of (order_of l.endian) l.buf l.place l.left
+
+abbrev pub decreases-loop-left : goal.decreases-loop-left
+decreases-loop-left l = l.left

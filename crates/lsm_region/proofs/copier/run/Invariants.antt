@@ -1,0 +1,22 @@
+use native.Mathlib.Omega.{arith}
+use Prim.Native.Nat.{◌+◌, ◌-◌, ◌<◌, ◌≤◌}
+use native.Mathlib.Nat.{add_assoc, add-zero}
+use mathlib.Core.Path.{◌≡◌, refl, sym, ◌∙◌}
+use mathlib.Core.Bool.{true}
+use lib.ListN.{length, take}
+use mir.Syntax.{w64}
+use mir.Val.{Fits}
+use Rattle.lsm_format.specs.Picture.{offset_of, count_of, stored, inside, span, bytes}
+use Rattle.lsm_format.proofs.Picture.{inside_head}
+use Rattle.lsm_region.specs.Cursor.{Stands}
+use Rattle.lsm_region.proofs.Filling.{less_by, less_fits, less_leaves}
+use Rattle.lsm_region.proofs.Walking.{stands_start, stands_as, stands_past, stands_on, stands_more, run_step, run_done}
+use Rattle.lsm_region.proofs.copier.run.Given as goal
+
+abbrev pub invariant-loop-at : goal.invariant-loop-at
+invariant-loop-at l =
+    (l.at ≤ length l.out) × (length l.out ≡ length l.initial.out) × Stands l.table l.end l.initial.i (l.initial.into + l.at) l.i l.into × (inside l.table (length l.file) l.i (l.end - l.i) ≡ true)
+    × (take l.at l.out ≡ bytes (stored l.file l.table l.initial.i (l.end - l.initial.i)) l.initial.into l.at)
+
+abbrev pub decreases-loop-at : goal.decreases-loop-at
+decreases-loop-at l = length l.out - l.at + (l.end - l.i)

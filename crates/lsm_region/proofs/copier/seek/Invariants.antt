@@ -1,0 +1,15 @@
+use native.Mathlib.Omega.{arith}
+use Prim.Native.Nat.{◌+◌, ◌-◌, ◌*◌, ◌^◌, ◌<◌, ◌≤◌}
+use native.Mathlib.Nat.{mod-lt}
+use mathlib.Core.Path.{refl}
+use Rattle.lsm_region.specs.Cursor.{Stands}
+use Rattle.lsm_region.proofs.Walking.{stands_start, stands_as, stands_past, stands_more, ahead_here, ahead_none}
+use Rattle.lsm_strips.proofs.Judging.{ahead_past, ahead_fits, ahead_over}
+use Rattle.lsm_format.specs.Picture.{count_of}
+use Rattle.lsm_region.proofs.copier.seek.Given as goal
+
+abbrev pub invariant-loop-ahead : goal.invariant-loop-ahead
+invariant-loop-ahead l = (l.ahead ≤ l.rows) × Stands l.table l.end l.initial.i (l.rows * l.row + l.initial.into) l.i (l.ahead * l.row + l.into)
+
+abbrev pub decreases-loop-ahead : goal.decreases-loop-ahead
+decreases-loop-ahead l = l.ahead + (l.end - l.i)

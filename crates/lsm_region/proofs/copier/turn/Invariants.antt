@@ -1,0 +1,17 @@
+use mathlib.Core.Path.{◌≡◌, refl, ◌∙◌}
+use mathlib.Core.List.{reverse}
+use Prim.Native.Nat.{◌+◌, ◌*◌, ◌≤◌, ◌-◌}
+use native.Mathlib.Nat.{zero-mul}
+use native.Mathlib.Omega.{arith}
+use lib.ListN.{length, take, drop}
+use Rattle.lsm_format.specs.Picture.{span, bytes}
+use Rattle.lsm_format.proofs.Picture.{held}
+use Rattle.lsm_region.proofs.Filling.{part_in, part_length, turn_step, parts_done}
+use Rattle.lsm_region.proofs.copier.turn.Given as goal
+
+abbrev pub invariant-loop-q : goal.invariant-loop-q
+invariant-loop-q l =
+    (l.q ≤ l.m) × (length l.out ≡ length l.initial.out) × (drop (l.q * l.s) l.out ≡ drop (l.q * l.s) l.initial.out) × (take (l.q * l.s) l.out ≡ span 0 l.q (λ i. reverse (bytes (held l.initial.out) (i * l.s) l.s)))
+
+abbrev pub decreases-loop-q : goal.decreases-loop-q
+decreases-loop-q l = l.m - l.q

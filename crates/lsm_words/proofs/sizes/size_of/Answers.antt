@@ -1,0 +1,17 @@
+-- `lsm_words::sizes::size_of` meets its contract. Assumes nothing.
+use native.Mathlib.Omega.{arith}
+use Rattle.lsm_words.specs.Calibration.{chosen, size_by}
+use Rattle.lsm_words.proofs.Calibrations.{none_chosen}
+use Rattle.lsm_words.proofs.sizes.size_of.Goals as goal
+
+pub returns-in-0 : goal.returns-in-0
+unfolding size_by chosen
+returns-in-0 c = rw c.in-0.is
+
+pub returns-in-1 : goal.returns-in-1
+unfolding size_by chosen
+returns-in-1 c = rw c.in-1.is c.sized_of.ensures
+
+pub returns-in_default : goal.returns-in_default
+unfolding size_by
+returns-in_default c = none_chosen _ _ (omega arith)

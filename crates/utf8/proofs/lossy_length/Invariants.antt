@@ -1,0 +1,14 @@
+use Prim.Native.Nat.{◌+◌, ◌-◌, ◌^◌, ◌≤◌, ◌<◌}
+use native.Mathlib.Nat.{zero-add}
+use native.Mathlib.Omega.{arith}
+use mathlib.Core.Path.{◌≡◌, refl, sym}
+use lib.ListN.{length, drop}
+use Rattle.lsm_format.specs.Utf8.{lossy}
+use Rattle.utf8.proofs.Text.{count_turn, count_done}
+use Rattle.utf8.proofs.lossy_length.Given as goal
+
+abbrev pub invariant-loop-at : goal.invariant-loop-at
+invariant-loop-at l = (l.total < 2 ^ 64) × (l.at ≤ length l.s) × (length (lossy l.s) ≡ l.total + length (lossy (drop l.at l.s)))
+
+abbrev pub decreases-loop-at : goal.decreases-loop-at
+decreases-loop-at l = length l.s - l.at

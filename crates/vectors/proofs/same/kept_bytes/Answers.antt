@@ -1,0 +1,19 @@
+-- `vectors::same::kept_bytes` meets its contract: the list is as it was if it is from i on. Assumes nothing.
+use Prim.Native.Nat.{◌-◌}
+use native.Mathlib.Omega.{arith}
+use lib.ListN.{length}
+use Rattle.vectors.specs.Same.{lent_byte}
+use Rattle.vectors.proofs.Compared.{Kept, kept_first, kept_more, kept_not, kept_all}
+use Rattle.vectors.proofs.same.kept_bytes.Goals as goal
+
+pub loop-i-init : goal.loop-i-init
+loop-i-init c = kept_first _ _
+
+pub returns-then-a-i : goal.returns-then-a-i
+returns-then-a-i c = kept_not c.loop-i.invariant (omega arith) (omega arith)
+
+pub loop-i-preserved : goal.loop-i-preserved
+loop-i-preserved c = kept_more c.loop-i.invariant (omega arith) (omega arith)
+
+pub returns : goal.returns
+returns c = kept_all c.loop-i.invariant (omega arith)

@@ -1,0 +1,22 @@
+-- `vectors::same::same_words` meets its contract: the lists are the same if they are from i on. Assumes nothing.
+use Prim.Native.Nat.{◌-◌}
+use native.Mathlib.Omega.{arith}
+use mathlib.Core.Path.{sym}
+use lib.ListN.{length}
+use Rattle.vectors.proofs.Compared.{same_long, Same, same_first, same_more, same_not, same_all}
+use Rattle.vectors.proofs.same.same_words.Goals as goal
+
+pub returns-then-a-b : goal.returns-then-a-b
+returns-then-a-b c = sym (same_long _ _ (omega arith))
+
+pub loop-i-init : goal.loop-i-init
+loop-i-init c = same_first _ _
+
+pub returns-then-a-i : goal.returns-then-a-i
+returns-then-a-i c = same_not c.loop-i.invariant (omega arith) (omega arith) (omega arith)
+
+pub loop-i-preserved : goal.loop-i-preserved
+loop-i-preserved c = same_more c.loop-i.invariant (omega arith) (omega arith) (omega arith)
+
+pub returns : goal.returns
+returns c = same_all c.loop-i.invariant (omega arith) (omega arith)

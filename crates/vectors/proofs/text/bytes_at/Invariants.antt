@@ -1,0 +1,16 @@
+use Prim.Native.Nat.{◌-◌, ◌≤◌}
+use native.Mathlib.Omega.{arith}
+use lib.ListN.{length}
+use Rattle.io.proofs.Counting.{prefix_len_of_le}
+use Rattle.vectors.proofs.Digits.{Sofar, nothing_yet, read_all, read_none}
+use Rattle.vectors.specs.Lines as Lines
+use Rattle.vectors.specs.Lines.{bytes_at}
+use Rattle.vectors.proofs.Lines.{bytes_more, bytes_nothing, bytes_over, bytes_full, bytes_from_lem, bytes_past, run_more}
+use Rattle.vectors.proofs.text.bytes_at.Given as goal
+
+abbrev pub invariant-loop-n : goal.invariant-loop-n
+invariant-loop-n l =
+    Sofar (bytes_at l.text l.from (length l.initial.bytes)) (Lines.bytes (length l.initial.bytes - l.n) (length l.initial.bytes - l.n) l.text l.at) l.initial.bytes l.bytes l.n × (l.from ≤ l.at) × (l.at ≤ length l.text)
+
+abbrev pub decreases-loop-n : goal.decreases-loop-n
+decreases-loop-n l = length l.initial.bytes - l.n
