@@ -136,11 +136,11 @@ def documents():
                     now.add(m.group(1))
     edits = {p.split("/")[-1][:-5] for p in files("crates/*/must-fail/*.edit")}
 
-    def name(word, quoted):
+    def name(word, quoted, listed):
         if word in now or word in edits:
             return word
         if CAMEL.search(word) and word[0].islower() and "-" not in word:
-            return snake(word) if snake(word) in now else word
+            return snake(word) if listed or snake(word) in now else word
         if "-" in word and quoted:
             for new in (plain(word), plain(word) + "_lem"):
                 if new in now:
@@ -154,14 +154,14 @@ def documents():
             if piece == "`":
                 tick = not tick
             elif tick or cells or listed:
-                piece = WORD.sub(lambda m: name(m.group(0), True), piece)
+                piece = WORD.sub(lambda m: name(m.group(0), True, listed), piece)
             else:
-                piece = WORD.sub(lambda m: name(m.group(0), False), piece)
+                piece = WORD.sub(lambda m: name(m.group(0), False, listed), piece)
             out.append(piece)
         text = "".join(out)
         if listed:
             text = re.sub(r"(\w) \.(?=\w)", r"\1.", text)
-            text = re.sub(r"(?<![\w'\]]) ?\((\w+(?:\.\w+)+)\)(?!\.)", r" \1", text) if ":" in text[:5] else text
+            text = re.sub(r"(?<=[\w,] )\((\w+(?:\.\w+)+)\)", r"\1", text)
         return text
 
     changed = 0

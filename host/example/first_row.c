@@ -1,6 +1,6 @@
 /* From a file to a picture: opens an LSM file, says what it holds, and prints the first row of its first picture.
  *
- *     rt staticlib lsm_c
+ *     tools/staticlib
  *     gcc -std=c11 -Wall -Wextra -Iinclude -o target/first_row host/example/first_row.c target/staticlib/liblsm_c.a
  *     target/first_row files/g.lsm
  *

@@ -7,7 +7,6 @@ use lib.ListN.{length, drop}
 use borrow.Author.Tests.{le-leb, lt-leb}
 use Rattle.lsm_format.specs.Answer.{Result, accepted, refused, bind, oversized_allocation}
 use Rattle.lsm_format.specs.Code.{row_of}
-use Rattle.lsm_format.specs.Lent.{filled}
 use Rattle.lsm_format.specs.Numbers.{Order}
 use Rattle.lsm_format.specs.Open.{Page, Walk, Description, file_limit, tiff_header, walk, describe_walk, table_words, read, open_file, open_memory}
 use Rattle.lsm_format.specs.Open as Open

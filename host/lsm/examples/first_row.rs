@@ -1,7 +1,7 @@
 //! From a file to a picture: opens an LSM file, says what it holds, and prints the first row of its first picture, as
 //! host/example/first_row.c does. From the repository's folder:
 //!
-//!     rt staticlib lsm_c
+//!     tools/staticlib
 //!     export LSM_STATIC_DIR=$PWD/target/staticlib
 //!     cargo run --offline -q --manifest-path host/lsm/Cargo.toml --target-dir target/host --example first_row files/g.lsm
 

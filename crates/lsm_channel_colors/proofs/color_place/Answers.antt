@@ -16,4 +16,4 @@ returns-in_default-checked_mul c = sym (word_over (omega (arith, word_none _ (to
 
 pub returns : goal.returns
 returns c =
-            c.checked_add-2.ensures ∙ ap₂ {C = Option ℕ} (λ (x y : ℕ). word (x + y)) (word_some _ _ (told_value _ c.checked_add.ensures c.in-Value.is)).0 (word_some _ _ (told_value _ c.checked_mul.ensures c.in-Value-checked_mul.is)).0
+    c.checked_add-2.ensures ∙ ap₂ {C = Option ℕ} (λ (x y : ℕ). word (x + y)) (word_some _ _ (told_value _ c.checked_add.ensures c.in-Value.is)).0 (word_some _ _ (told_value _ c.checked_mul.ensures c.in-Value-checked_mul.is)).0

@@ -10,16 +10,16 @@ returns-then-channels-channel c = looked_outside _ _ _ _ _ _ (omega arith)
 
 pub returns-in_default : goal.returns-in_default
 returns-in_default c =
-        looked_nameless _ _ _ _ _ _ (omega arith) c.find_channel-stated.ensures _ c.in_default.is
+    looked_nameless _ _ _ _ _ _ (omega arith) c.find_channel-stated.ensures _ c.in_default.is
 
 pub read_name-requires : goal.read_name-requires
 read_name-requires c =
-        inside_of _ c.find_channel-stated.ensures.inside c.in-At.is
+    inside_of _ c.find_channel-stated.ensures.inside c.in-At.is
 
 pub returns-in-Length : goal.returns-in-Length
 returns-in-Length c =
-                looked_named _ _ _ _ _ _ (omega arith) c.find_channel-stated.ensures _ _ _ _ c.in-At.is _ c.read_name.ensures _ c.in-Length.is
+    looked_named _ _ _ _ _ _ (omega arith) c.find_channel-stated.ensures _ _ _ _ c.in-At.is _ c.read_name.ensures _ c.in-Length.is
 
 pub returns-in-Refused : goal.returns-in-Refused
 returns-in-Refused c =
-                looked_short _ _ _ _ _ _ (omega arith) c.find_channel-stated.ensures _ _ _ _ c.in-At.is _ c.read_name.ensures _ c.in-Refused.is
+    looked_short _ _ _ _ _ _ (omega arith) c.find_channel-stated.ensures _ _ _ _ c.in-At.is _ c.read_name.ensures _ c.in-Refused.is

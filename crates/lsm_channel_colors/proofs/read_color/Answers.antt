@@ -10,12 +10,12 @@ use Rattle.lsm_channel_colors.proofs.read_color.Goals as goal
 
 pub returns-in_default : goal.returns-in_default
 returns-in_default c =
-        no_colors _ _ _ _ (pointed_told _ c.ranges.colors c.table_of.ensures c.in_default.is)
+    no_colors _ _ _ _ (pointed_told _ c.ranges.colors c.table_of.ensures c.in_default.is)
 
 pub returns-in-Value-color_place : goal.returns-in-Value-color_place
 returns-in-Value-color_place c =
-                c.color_at.ensures ∙ color_is _ _ _ _ _ _ (pointed_told _ c.ranges.colors c.table_of.ensures c.in-Value.is) (word_some _ _ (told_value _ c.color_place.ensures c.in-Value-color_place.is)).0
+    c.color_at.ensures ∙ color_is _ _ _ _ _ _ (pointed_told _ c.ranges.colors c.table_of.ensures c.in-Value.is) (word_some _ _ (told_value _ c.color_place.ensures c.in-Value-color_place.is)).0
 
 pub returns-in-Overflow : goal.returns-in-Overflow
 returns-in-Overflow c =
-                color_past _ _ (omega (arith, word_none _ (told_overflow _ c.color_place.ensures c.in-Overflow.is))) ∙ color_is _ _ _ _ _ _ (pointed_told _ c.ranges.colors c.table_of.ensures c.in-Value.is) refl
+    color_past _ _ (omega (arith, word_none _ (told_overflow _ c.color_place.ensures c.in-Overflow.is))) ∙ color_is _ _ _ _ _ _ (pointed_told _ c.ranges.colors c.table_of.ensures c.in-Value.is) refl

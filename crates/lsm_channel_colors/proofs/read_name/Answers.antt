@@ -5,4 +5,4 @@ use Rattle.lsm_channel_colors.proofs.read_name.Goals as goal
 
 pub returns : goal.returns
 returns c =
-        trimmed_decoding _ _ _ _ c.trimmed_length.ensures c.decode_lossy.ensures
+    trimmed_decoding _ _ _ _ c.trimmed_length.ensures c.decode_lossy.ensures

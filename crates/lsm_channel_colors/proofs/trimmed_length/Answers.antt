@@ -1,9 +1,6 @@
 -- `lsm_channel_colors::trimmed_length` meets its contract: the bytes that are left trim to the same as all. Assumes nothing.
-use Prim.Native.Nat.{◌≤◌}
 use native.Mathlib.Omega.{arith}
-use mathlib.Core.Path.{◌≡◌, refl, ◌∙◌}
-use lib.ListN.{take, drop}
-use Rattle.lsm_format.specs.Channels.{trimmed}
+use mathlib.Core.Path.{refl, ◌∙◌}
 use Rattle.lsm_format.proofs.Channels.{trimmed_zero, trimmed_kept, trimmed_none}
 use Rattle.lsm_channel_colors.proofs.trimmed_length.Goals as goal
 
@@ -20,4 +17,4 @@ loop-n-preserved c =
 
 pub returns : goal.returns
 returns c =
-        record { is = trimmed_none c.args.buf.now c.args.start c.loop-n.n (omega arith) ∙ c.loop-n.invariant.1; within = c.loop-n.invariant.0 }
+    record { is = trimmed_none c.args.buf.now c.args.start c.loop-n.n (omega arith) ∙ c.loop-n.invariant.1; within = c.loop-n.invariant.0 }

@@ -1,9 +1,7 @@
 use Prim.Native.Nat.{◌≤◌}
-use native.Mathlib.Omega.{arith}
-use mathlib.Core.Path.{◌≡◌, refl, ◌∙◌}
+use mathlib.Core.Path.{◌≡◌}
 use lib.ListN.{take, drop}
 use Rattle.lsm_format.specs.Channels.{trimmed}
-use Rattle.lsm_format.proofs.Channels.{trimmed_zero, trimmed_kept, trimmed_none}
 use Rattle.lsm_channel_colors.proofs.trimmed_length.Given as goal
 
 abbrev pub invariant-loop-n : goal.invariant-loop-n

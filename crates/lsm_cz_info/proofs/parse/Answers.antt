@@ -1,10 +1,8 @@
 -- `lsm_cz_info::parse` meets its contract, by the part that refuses. A block that is taken lies in the file, so its parts may be read.
 -- Assumes nothing.
 use native.Mathlib.Omega.{arith}
-use Prim.Native.Nat.{ℕ}
 use mathlib.Core.Bool.{true}
 use mathlib.Core.Option.{none}
-use mathlib.Core.List.{List}
 use mathlib.Core.Path.{◌≡◌, sym, ap, ◌∙◌}
 use lib.Dec.{leb}
 use lib.IntN.{nat_abs}
@@ -16,7 +14,6 @@ use Rattle.lsm_format.specs.Answer.{accepted}
 use Rattle.lsm_format.specs.Calibration.{uncalibrated}
 use Rattle.lsm_format.specs.Code.{order_of, block_of}
 use Rattle.lsm_format.specs.CzInfo.{header, extents, stated, voxels, channel_block, from}
-use Rattle.lsm_format.specs.Numbers.{Order}
 use Rattle.calibration.specs.Calibrated.{calibration_of}
 use Rattle.lsm_format.proofs.CzInfo.{natural_nonneg, natural_size, stated_natural, header_fits}
 use Rattle.lsm_format.proofs.CzInfo.{cz_header, cz_extents, cz_unstated, cz_voxels, cz_channel, cz_shots, cz_is}

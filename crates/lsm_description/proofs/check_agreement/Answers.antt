@@ -1,6 +1,6 @@
 -- The tests come in the order of `agreement`, so each return is told by the tests before it. What a test that passed says, in the terms of
 -- the definition, is a fact of its own below; a return cites those before it. A line more or less in `agreement` is a fact more or less here.
-use Prim.Native.Nat.{ℕ, max}
+use Prim.Native.Nat.{max}
 use mathlib.Core.Bool.{true, false, ◌||◌}
 use lib.Dec.{leb, eqb}
 use mathlib.Core.Path.{◌≡◌, sym, ◌∙◌}
@@ -8,9 +8,6 @@ use borrow.Author.Tests.{eq-eqb, ne_eqb, not-true, not-false}
 use Rattle.lsm_format.specs.Answer.{bind}
 use Rattle.lsm_format.specs.Open.{agreement}
 use Rattle.lsm_values.proofs.Laws.{values_length}
-use Rattle.lsm_cz_info.specs.declared.CzInfo.{CzInfo}
-use Rattle.lsm_directory.specs.declared.Directory.{Directory}
-use Rattle.lsm_description.proofs.check_agreement.Reads as reads
 use borrow.Author.Rules.{rules}
 use Rattle.lsm_description.proofs.check_agreement.Goals as goal
 
@@ -49,7 +46,7 @@ returns-then-is_interleaved c =
 pub returns-then-offsets-eq0 : goal.returns-then-offsets-eq0
 unfolding agreement bind
 returns-then-offsets-eq0 c =
-    let one_plane : (leb (max 1 (c.args.page).samples) 1 || eqb (c.args.page).planar_configuration 2) ≡ true =     rw (← c.at_least_one-channels.ensures.0) (not-false _ (sym c.is_interleaved.ensures ∙ c.if-is_interleaved.false)) in
+    let one_plane : (leb (max 1 (c.args.page).samples) 1 || eqb (c.args.page).planar_configuration 2) ≡ true = rw (← c.at_least_one-channels.ensures.0) (not-false _ (sym c.is_interleaved.ensures ∙ c.if-is_interleaved.false)) in
     let same_channels : eqb (c.args.info).dim_channels (max 1 (c.args.page).samples) ≡ true = eq-eqb _ _ (c.if-info-channels.false ∙ c.at_least_one-channels.ensures.0) in
     let same_height : eqb (c.args.info).dim_y (c.args.page).height ≡ true = eq-eqb _ _ c.if-info-page-2.false in
     let same_width : eqb (c.args.info).dim_x (c.args.page).width ≡ true = eq-eqb _ _ c.if-info-page.false in
@@ -62,7 +59,7 @@ pub returns-then-offsets-channels-ne0 : goal.returns-then-offsets-channels-ne0
 unfolding agreement bind
 returns-then-offsets-channels-ne0 c =
     let some_strips : eqb (c.args.page).offsets.count 0 ≡ false = ne_eqb _ _ c.if-offsets-eq0.false in
-    let one_plane : (leb (max 1 (c.args.page).samples) 1 || eqb (c.args.page).planar_configuration 2) ≡ true =     rw (← c.at_least_one-channels.ensures.0) (not-false _ (sym c.is_interleaved.ensures ∙ c.if-is_interleaved.false)) in
+    let one_plane : (leb (max 1 (c.args.page).samples) 1 || eqb (c.args.page).planar_configuration 2) ≡ true = rw (← c.at_least_one-channels.ensures.0) (not-false _ (sym c.is_interleaved.ensures ∙ c.if-is_interleaved.false)) in
     let same_channels : eqb (c.args.info).dim_channels (max 1 (c.args.page).samples) ≡ true = eq-eqb _ _ (c.if-info-channels.false ∙ c.at_least_one-channels.ensures.0) in
     let same_height : eqb (c.args.info).dim_y (c.args.page).height ≡ true = eq-eqb _ _ c.if-info-page-2.false in
     let same_width : eqb (c.args.info).dim_x (c.args.page).width ≡ true = eq-eqb _ _ c.if-info-page.false in
@@ -72,7 +69,7 @@ pub returns : goal.returns
 unfolding agreement bind
 returns c =
     let some_strips : eqb (c.args.page).offsets.count 0 ≡ false = ne_eqb _ _ c.if-offsets-eq0.false in
-    let one_plane : (leb (max 1 (c.args.page).samples) 1 || eqb (c.args.page).planar_configuration 2) ≡ true =     rw (← c.at_least_one-channels.ensures.0) (not-false _ (sym c.is_interleaved.ensures ∙ c.if-is_interleaved.false)) in
+    let one_plane : (leb (max 1 (c.args.page).samples) 1 || eqb (c.args.page).planar_configuration 2) ≡ true = rw (← c.at_least_one-channels.ensures.0) (not-false _ (sym c.is_interleaved.ensures ∙ c.if-is_interleaved.false)) in
     let same_channels : eqb (c.args.info).dim_channels (max 1 (c.args.page).samples) ≡ true = eq-eqb _ _ (c.if-info-channels.false ∙ c.at_least_one-channels.ensures.0) in
     let same_height : eqb (c.args.info).dim_y (c.args.page).height ≡ true = eq-eqb _ _ c.if-info-page-2.false in
     let same_width : eqb (c.args.info).dim_x (c.args.page).width ≡ true = eq-eqb _ _ c.if-info-page.false in

@@ -14,12 +14,12 @@ overflow_mul-total c = record { fits = omega (arith, mul-le-mul {n₁ = c.tiff_t
 
 pub returns-then-total-le4 : goal.returns-then-total-le4
 returns-then-total-le4 c =
-        λ d. cz_small _ _ _ _ _ _ d (ap (λ n. n * c.args.count) c.tiff_type_size.ensures) c.if-total-le4.true
+    λ d. cz_small _ _ _ _ _ _ d (ap (λ n. n * c.args.count) c.tiff_type_size.ensures) c.if-total-le4.true
 
 pub returns-in_default : goal.returns-in_default
 returns-in_default c =
-                λ d. cz_no_offset _ _ _ _ _ _ d (ap (λ n. n * c.args.count) c.tiff_type_size.ensures) c.if-total-le4.false (told u32_of c.read_u32.ensures c.in_default.is)
+    λ d. cz_no_offset _ _ _ _ _ _ d (ap (λ n. n * c.args.count) c.tiff_type_size.ensures) c.if-total-le4.false (told u32_of c.read_u32.ensures c.in_default.is)
 
 pub returns : goal.returns
 returns c =
-                    λ d. cz_is _ _ _ _ _ _ d (ap (λ n. n * c.args.count) c.tiff_type_size.ensures) c.if-total-le4.false _ (told u32_of c.read_u32.ensures c.in-Value.is)
+    λ d. cz_is _ _ _ _ _ _ d (ap (λ n. n * c.args.count) c.tiff_type_size.ensures) c.if-total-le4.false _ (told u32_of c.read_u32.ensures c.in-Value.is)

@@ -11,22 +11,22 @@ use Rattle.lsm_directory.proofs.directory_ends.Goals as goal
 pub returns-in_default : goal.returns-in_default
 unfolding ends bind
 returns-in_default c = record {
-      ends = rw (told u16_of c.read_u16.ensures c.in_default.is);
-      small = tt;
-    }
+  ends = rw (told u16_of c.read_u16.ensures c.in_default.is);
+  small = tt;
+}
 
 pub overflow_add-place : goal.overflow_add-place
 overflow_add-place c =
-        omega (arith, number_inside _ _ _ _ _ (told u16_of c.read_u16.ensures c.in-Value.is))
+    omega (arith, number_inside _ _ _ _ _ (told u16_of c.read_u16.ensures c.in-Value.is))
 
 pub overflow_add-place-2 : goal.overflow_add-place-2
 overflow_add-place-2 c =
-        omega (arith, number_inside _ _ _ _ _ (told u16_of c.read_u16.ensures c.in-Value.is))
+    omega (arith, number_inside _ _ _ _ _ (told u16_of c.read_u16.ensures c.in-Value.is))
 
 pub returns-in_default-read_u32 : goal.returns-in_default-read_u32
 unfolding ends bind
 returns-in_default-read_u32 c =
-            record {
+    record {
       ends = rw (told u16_of c.read_u16.ensures c.in-Value.is, told u32_of c.read_u32.ensures c.in_default-read_u32.is);
       small = tt;
     }
@@ -34,7 +34,7 @@ returns-in_default-read_u32 c =
 pub returns : goal.returns
 unfolding ends bind
 returns c =
-            record {
+    record {
       ends = rw (told u16_of c.read_u16.ensures c.in-Value.is, told u32_of c.read_u32.ensures c.in-Value-read_u32.is);
       small = omega arith;
     }

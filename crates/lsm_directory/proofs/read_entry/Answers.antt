@@ -13,26 +13,26 @@ returns-in_default c = λ d. entry_no_tag _ _ _ d (told u16_of c.read_u16.ensure
 
 pub overflow_add-at : goal.overflow_add-at
 overflow_add-at c =
-        omega (arith, number_inside _ _ _ _ _ (told u16_of c.read_u16.ensures c.in-Value.is))
+    omega (arith, number_inside _ _ _ _ _ (told u16_of c.read_u16.ensures c.in-Value.is))
 
 pub returns-in_default-read_u16 : goal.returns-in_default-read_u16
 returns-in_default-read_u16 c =
-            λ d. entry_no_type _ _ _ d _ (told u16_of c.read_u16.ensures c.in-Value.is) (told u16_of c.read_u16-2.ensures c.in_default-read_u16.is)
+    λ d. entry_no_type _ _ _ d _ (told u16_of c.read_u16.ensures c.in-Value.is) (told u16_of c.read_u16-2.ensures c.in_default-read_u16.is)
 
 pub overflow_add-at-2 : goal.overflow_add-at-2
 overflow_add-at-2 c =
-        omega (arith, number_inside _ _ _ _ _ (told u16_of c.read_u16.ensures c.in-Value.is))
+    omega (arith, number_inside _ _ _ _ _ (told u16_of c.read_u16.ensures c.in-Value.is))
 
 pub returns-in_default-read_u32 : goal.returns-in_default-read_u32
 returns-in_default-read_u32 c =
-                λ d. entry_no_count _ _ _ d _ (told u16_of c.read_u16.ensures c.in-Value.is) _ (told u16_of c.read_u16-2.ensures c.in-Value-read_u16.is) (told u32_of c.read_u32.ensures c.in_default-read_u32.is)
+    λ d. entry_no_count _ _ _ d _ (told u16_of c.read_u16.ensures c.in-Value.is) _ (told u16_of c.read_u16-2.ensures c.in-Value-read_u16.is) (told u32_of c.read_u32.ensures c.in_default-read_u32.is)
 
 pub overflow_add-at-3 : goal.overflow_add-at-3
 overflow_add-at-3 c =
-        omega (arith, number_inside _ _ _ _ _ (told u16_of c.read_u16.ensures c.in-Value.is))
+    omega (arith, number_inside _ _ _ _ _ (told u16_of c.read_u16.ensures c.in-Value.is))
 
 pub returns : goal.returns
 returns c =
-                λ d.
+    λ d.
     c.value_by.ensures d ∙ entry_is _ _ _ d _ (told u16_of c.read_u16.ensures c.in-Value.is) _ (told u16_of c.read_u16-2.ensures c.in-Value-read_u16.is)
     _ (told u32_of c.read_u32.ensures c.in-Value-read_u32.is) _ c.tag_of.ensures

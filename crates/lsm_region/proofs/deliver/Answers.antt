@@ -13,7 +13,7 @@ use Rattle.lsm_region.proofs.deliver.Goals as goal
 
 pub overflow_mul-size : goal.overflow_mul-size
 overflow_mul-size c =
-        omega (arith, le-mul_of_pos_right (c.args.rect.w * c.args.rect.h) (sample_size_pos (kind_of c.args.d.dtype)), c.requires.size)
+    omega (arith, le-mul_of_pos_right (c.args.rect.w * c.args.rect.h) (sample_size_pos (kind_of c.args.d.dtype)), c.requires.size)
 
 pub overflow_mul-size-2 : goal.overflow_mul-size-2
 overflow_mul-size-2 c =

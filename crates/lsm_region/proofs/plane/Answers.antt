@@ -9,7 +9,7 @@ deliver-requires c = ready_whole _ _ _ _ _ (told found_of c.plane_from.ensures c
 
 pub returns-in-Strips : goal.returns-in-Strips
 returns-in-Strips c =
-        pictured_as (plane_fit _ _ _ _ _ (told found_of c.plane_from.ensures c.in-Strips.is)) c.deliver.ensures
+    pictured_as (plane_fit _ _ _ _ _ (told found_of c.plane_from.ensures c.in-Strips.is)) c.deliver.ensures
 
 pub returns-in-Refused : goal.returns-in-Refused
 returns-in-Refused c = pictured_refused _ _ _ (plane_unfit _ _ _ _ _ (told found_of c.plane_from.ensures c.in-Refused.is))

@@ -11,7 +11,7 @@ returns-then-is_empty c =
 
 pub region_strips-requires : goal.region_strips-requires
 region_strips-requires c =
-        record {
+    record {
       c_bound = c.requires.c_bound;
       lying = lying _ _ _ c.requires.rect_value (sym c.is_empty.ensures ∙ c.if-is_empty.false);
     }

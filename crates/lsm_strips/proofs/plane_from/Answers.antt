@@ -11,7 +11,7 @@ plane_strips-requires c = coordinate_channel _ _ _ (told check_of c.checked_plac
 
 pub returns-in-Accepted : goal.returns-in-Accepted
 returns-in-Accepted c =
-        c.plane_strips.ensures ∙ plane_placed _ _ _ _ _ (told check_of c.checked_place.ensures c.in-Accepted.is)
+    c.plane_strips.ensures ∙ plane_placed _ _ _ _ _ (told check_of c.checked_place.ensures c.in-Accepted.is)
 
 pub returns-in-Refused : goal.returns-in-Refused
 returns-in-Refused c = plane_outside _ _ _ _ _ (told check_of c.checked_place.ensures c.in-Refused.is)

@@ -3,8 +3,6 @@
 -- nothing.
 use native.Mathlib.Omega.{arith}
 use mathlib.Core.Path.{◌≡◌, sym, ap, ◌∙◌}
-use Rattle.lsm_format.specs.Code.{order_of}
-use Rattle.lsm_format.specs.Directory.{value_place}
 use Rattle.lsm_format.proofs.Directory.{integer_size_lem, scalar_no_count, scalar_nowhere, scalar_is}
 use Rattle.lsm_format.proofs.Told.{told}
 use Rattle.lsm_bytes.specs.Code.{u32_of}

@@ -1,9 +1,6 @@
 -- `lsm_values::no_number` meets its contract: where the place of the values is known the type refuses, whatever its size and count
 -- (`scalar_no_number`), and where it isn't that does (`scalar_nowhere`). Assumes nothing.
 use native.Mathlib.Omega.{arith}
-use mathlib.Core.Path.{◌≡◌}
-use Rattle.lsm_format.specs.Code.{order_of}
-use Rattle.lsm_format.specs.Directory.{type_size, value_place}
 use Rattle.lsm_format.proofs.Directory.{type_size_small, scalar_nowhere, scalar_no_number}
 use Rattle.lsm_format.proofs.Told.{told}
 use Rattle.lsm_values.specs.Code.{place_of}

@@ -7,7 +7,6 @@ use Rattle.lsm_values.specs.Values.{or_nought}
 use native.Mathlib.Omega.{arith}
 use Rattle.lsm_bytes.specs.Code.{u32_of}
 use Rattle.lsm_values.proofs.Laws.{value_none, value_past, value_is, among_them, past_them}
-use Rattle.lsm_values.proofs.strip_value.Reads as reads
 use Rattle.lsm_values.proofs.strip_value.Goals as goal
 
 pub returns-then-a-i : goal.returns-then-a-i

@@ -1,11 +1,8 @@
 -- `utf8::lossy_length` meets its contract. The loop's invariant: the text is as long as what was counted and the text from here on. The
 -- weight lies in a turn (`count_turn`), and in the early answer: there the text is longer than 2^64 - 1. Assumes nothing.
-use Prim.Native.Nat.{◌+◌, ◌-◌, ◌^◌, ◌≤◌, ◌<◌}
 use native.Mathlib.Nat.{zero-add}
 use native.Mathlib.Omega.{arith}
-use mathlib.Core.Path.{◌≡◌, refl, sym}
-use lib.ListN.{length, drop}
-use Rattle.lsm_format.specs.Utf8.{lossy}
+use mathlib.Core.Path.{refl, sym}
 use Rattle.utf8.proofs.Text.{count_turn, count_done}
 use Rattle.utf8.proofs.lossy_length.Goals as goal
 

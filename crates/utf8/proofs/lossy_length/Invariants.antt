@@ -1,10 +1,7 @@
 use Prim.Native.Nat.{◌+◌, ◌-◌, ◌^◌, ◌≤◌, ◌<◌}
-use native.Mathlib.Nat.{zero-add}
-use native.Mathlib.Omega.{arith}
-use mathlib.Core.Path.{◌≡◌, refl, sym}
+use mathlib.Core.Path.{◌≡◌}
 use lib.ListN.{length, drop}
 use Rattle.lsm_format.specs.Utf8.{lossy}
-use Rattle.utf8.proofs.Text.{count_turn, count_done}
 use Rattle.utf8.proofs.lossy_length.Given as goal
 
 abbrev pub invariant-loop-at : goal.invariant-loop-at

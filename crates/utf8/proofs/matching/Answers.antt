@@ -1,13 +1,8 @@
 -- `utf8::matching` meets its contract. The loop's invariant: what matches in all is what was passed and what matches from here on, where
 -- the first range is the row's and every later one 80 to BF. An answer is one of the ways in which a match ends (`follow_end`,
 -- `follow_out`, `follow_all`), and `turn` is the loop's head in it. Assumes nothing.
-use Prim.Native.Nat.{◌+◌, ◌-◌, ◌≤◌}
 use native.Mathlib.Nat.{add-zero, zero-add, sub-zero}
 use native.Mathlib.Omega.{arith}
-use mathlib.Core.Path.{◌≡◌}
-use lib.ListN.{length, drop}
-use Rattle.lsm_format.specs.Utf8.{matched}
-use Rattle.utf8.specs.Pieces.{ranges}
 use Rattle.utf8.proofs.Rows.{between_below, between_past}
 use Rattle.utf8.proofs.Pieces.{follow_end, follow_all, follow_out, follow_in}
 use Rattle.utf8.proofs.matching.Goals as goal
@@ -30,13 +25,12 @@ returns-then-most-b c =
     c.loop-n-test.true (omega arith) (between_past (_, _) _ c.if-most-b.true)
 
 pub loop-n-preserved : goal.loop-n-preserved
-loop-n-preserved c =
-    (
-      omega arith,
-      omega arith,
-      follow_in c.args.s.now c.args.from c.args.count c.loop-n.least c.loop-n.most c.loop-n.n _ c.loop-n.invariant.2
-          c.loop-n-test.true (omega arith) c.if-b-least.false c.if-most-b.false,
-    )
+loop-n-preserved c = (
+  omega arith,
+  omega arith,
+  follow_in c.args.s.now c.args.from c.args.count c.loop-n.least c.loop-n.most c.loop-n.n _ c.loop-n.invariant.2
+      c.loop-n-test.true (omega arith) c.if-b-least.false c.if-most-b.false,
+)
 
 pub returns : goal.returns
 returns c =

@@ -5,7 +5,7 @@ use mathlib.Core.Path.{sym, ap, ◌∙◌}
 use lib.ListN.{length-take, length-drop}
 use Rattle.utf8.specs.Pieces.{piece_of, taken, given}
 use Rattle.utf8.specs.declared.Piece.{Piece}
-use Rattle.utf8.proofs.Text.{copied, text_whole, text_part}
+use Rattle.utf8.proofs.Text.{text_whole, text_part}
 use Rattle.utf8.proofs.put.Goals as goal
 
 -- the piece at hand, which the pattern names, is as long as `given` and `taken` say

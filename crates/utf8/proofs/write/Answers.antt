@@ -1,11 +1,9 @@
 -- `utf8::write` meets its contract. The loop's invariant: what was written, then the text from here on, is the text. The weight lies in
 -- `room`: the piece at hand is a part of the text that is left, and so has room in what is left of `out`. Assumes nothing.
-use Prim.Native.Nat.{◌+◌, ◌-◌, ◌≤◌}
+use Prim.Native.Nat.{◌+◌, ◌≤◌}
 use native.Mathlib.Omega.{arith}
-use mathlib.Core.List.{◌++◌}
-use mathlib.Core.Path.{◌≡◌, refl, sym, ◌∙◌}
-use lib.ListN.{length, take, drop, length-take, length-drop}
-use Rattle.lsm_format.specs.Utf8.{lossy}
+use mathlib.Core.Path.{refl, sym, ◌∙◌}
+use lib.ListN.{length, length-take, length-drop}
 use Rattle.utf8.proofs.Text.{write_room, write_turn, write_done}
 use Rattle.utf8.proofs.write.Goals as goal
 
@@ -14,19 +12,19 @@ loop-at-init c = (omega arith, omega arith, c.requires, refl)
 
 pub overflow_add-end : goal.overflow_add-end
 overflow_add-end c =
-    let room : c.loop-at.n + c.given_by.result ≤ length c.loop-at.out = 
+    let room : c.loop-at.n + c.given_by.result ≤ length c.loop-at.out =
     write_room _ _ _ _ c.loop-at.invariant.1 c.loop-at.invariant.2 c.loop-at.invariant.3 _ c.loop-at-test.true c.piece_at-p.ensures.is c.given_by.ensures in
     omega (arith, room)
 
 pub slice_bounds-put-end : goal.slice_bounds-put-end
 slice_bounds-put-end c =
-    let room : c.loop-at.n + c.given_by.result ≤ length c.loop-at.out = 
+    let room : c.loop-at.n + c.given_by.result ≤ length c.loop-at.out =
     write_room _ _ _ _ c.loop-at.invariant.1 c.loop-at.invariant.2 c.loop-at.invariant.3 _ c.loop-at-test.true c.piece_at-p.ensures.is c.given_by.ensures in
     room
 
 pub put-requires : goal.put-requires
 put-requires c =
-    let room : c.loop-at.n + c.given_by.result ≤ length c.loop-at.out = 
+    let room : c.loop-at.n + c.given_by.result ≤ length c.loop-at.out =
     write_room _ _ _ _ c.loop-at.invariant.1 c.loop-at.invariant.2 c.loop-at.invariant.3 _ c.loop-at-test.true c.piece_at-p.ensures.is c.given_by.ensures in
     record {
       at_in_bounds = c.loop-at-test.true;
@@ -36,9 +34,8 @@ put-requires c =
 
 pub loop-at-preserved : goal.loop-at-preserved
 loop-at-preserved c =
-    let room : c.loop-at.n + c.given_by.result ≤ length c.loop-at.out = 
-    write_room _ _ _ _ c.loop-at.invariant.1 c.loop-at.invariant.2 c.loop-at.invariant.3 _ c.loop-at-test.true c.piece_at-p.ensures.is c.given_by.ensures in
-    (
+    let room : c.loop-at.n + c.given_by.result ≤ length c.loop-at.out =
+    write_room _ _ _ _ c.loop-at.invariant.1 c.loop-at.invariant.2 c.loop-at.invariant.3 _ c.loop-at-test.true c.piece_at-p.ensures.is c.given_by.ensures in (
       omega arith,
       omega (arith, c.out-1.given.1, room),
       c.out-1.given.1 ∙ c.loop-at.invariant.2,

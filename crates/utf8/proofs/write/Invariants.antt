@@ -1,10 +1,8 @@
-use Prim.Native.Nat.{◌+◌, ◌-◌, ◌≤◌}
-use native.Mathlib.Omega.{arith}
+use Prim.Native.Nat.{◌-◌, ◌≤◌}
 use mathlib.Core.List.{◌++◌}
-use mathlib.Core.Path.{◌≡◌, refl, sym, ◌∙◌}
-use lib.ListN.{length, take, drop, length-take, length-drop}
+use mathlib.Core.Path.{◌≡◌}
+use lib.ListN.{length, take, drop}
 use Rattle.lsm_format.specs.Utf8.{lossy}
-use Rattle.utf8.proofs.Text.{write_room, write_turn, write_done}
 use Rattle.utf8.proofs.write.Given as goal
 
 abbrev pub invariant-loop-at : goal.invariant-loop-at

@@ -1,10 +1,6 @@
-use native.Mathlib.Omega.{arith}
-use mathlib.Core.Path.{◌≡◌, refl, sym, ◌∙◌}
+use mathlib.Core.Path.{◌≡◌}
 use Rattle.lsm_format.specs.Code.{order_of}
 use Rattle.lsm_format.specs.Channels.{record_of}
-use Rattle.lsm_format.proofs.Channels.{record_last, record_ends, record_next, record_inside}
-use Rattle.lsm_format.proofs.Told.{told}
-use Rattle.lsm_channel_colors.specs.Tables.{span_of}
 use Rattle.lsm_channel_colors.proofs.tables.find_record.Given as goal
 
 abbrev pub invariant-loop-left : goal.invariant-loop-left

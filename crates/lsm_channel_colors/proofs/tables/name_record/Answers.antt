@@ -15,22 +15,22 @@ returns-in_default c = record_unread _ _ _ (told i32_of c.read_i32.ensures c.in_
 
 pub returns-in_default-counted : goal.returns-in_default-counted
 returns-in_default-counted c =
-        no_length _ _ _ _ (told i32_of c.read_i32.ensures c.in-Value.is) (natural_told c.in-Value.n (record { sfits = c.in-Value.known_told-1-own.given.0.1 }) c.counted.ensures c.in_default-counted.is)
+    no_length _ _ _ _ (told i32_of c.read_i32.ensures c.in-Value.is) (natural_told c.in-Value.n (record { sfits = c.in-Value.known_told-1-own.given.0.1 }) c.counted.ensures c.in_default-counted.is)
 
 pub overflow_add-start : goal.overflow_add-start
 overflow_add-start c =
-        omega (arith, signed_there _ _ _ _ (told i32_of c.read_i32.ensures c.in-Value.is))
+    omega (arith, signed_there _ _ _ _ (told i32_of c.read_i32.ensures c.in-Value.is))
 
 pub overflow_sub-rest : goal.overflow_sub-rest
 overflow_sub-rest c =
-        omega (arith, signed_there _ _ _ _ (told i32_of c.read_i32.ensures c.in-Value.is))
+    omega (arith, signed_there _ _ _ _ (told i32_of c.read_i32.ensures c.in-Value.is))
 
 pub returns-then-rest-len : goal.returns-then-rest-len
 returns-then-rest-len c =
-            let e = told i32_of c.read_i32.ensures c.in-Value.is in
+    let e = told i32_of c.read_i32.ensures c.in-Value.is in
     record_past _ _ _ _ (e ∙ ap accepted (natural_is _ _ (natural_told c.in-Value.n (record { sfits = c.in-Value.known_told-1-own.given.0.1 }) c.counted.ensures c.in-Value-counted.is))) (omega (arith, signed_there _ _ _ _ e))
 
 pub returns : goal.returns
 returns c =
-            let e = told i32_of c.read_i32.ensures c.in-Value.is in
+    let e = told i32_of c.read_i32.ensures c.in-Value.is in
     record_there _ _ _ _ (e ∙ ap accepted (natural_is _ _ (natural_told c.in-Value.n (record { sfits = c.in-Value.known_told-1-own.given.0.1 }) c.counted.ensures c.in-Value-counted.is))) (omega (arith, signed_there _ _ _ _ e))

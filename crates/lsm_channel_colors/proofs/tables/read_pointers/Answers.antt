@@ -20,9 +20,9 @@ returns-in_default c = pointers_first _ _ _ (omega arith) (told i32_of c.read_i3
 
 pub returns-in_default-read_i32 : goal.returns-in_default-read_i32
 returns-in_default-read_i32 c =
-        pointers_second _ _ _ _ _ (omega arith) (told i32_of c.read_i32.ensures c.in-Value.is) (told i32_of c.read_i32-2.ensures c.in_default-read_i32.is) (omega arith)
+    pointers_second _ _ _ _ _ (omega arith) (told i32_of c.read_i32.ensures c.in-Value.is) (told i32_of c.read_i32-2.ensures c.in_default-read_i32.is) (omega arith)
 
 pub returns : goal.returns
 returns c =
-        rw (to_z-of_z w32 c.in-Value.colors (record { sfits = c.in-Value.known_told-1-own.given.0.1 }), to_z-of_z w32 c.in-Value-read_i32.names (record { sfits = c.in-Value-read_i32.known_told-in-Value-read_i32-2-1-own.given.0.1 }))
+    rw (to_z-of_z w32 c.in-Value.colors (record { sfits = c.in-Value.known_told-1-own.given.0.1 }), to_z-of_z w32 c.in-Value-read_i32.names (record { sfits = c.in-Value-read_i32.known_told-in-Value-read_i32-2-1-own.given.0.1 }))
     (pointers_there _ _ _ _ _ _ (omega arith) (told i32_of c.read_i32.ensures c.in-Value.is) (told i32_of c.read_i32-2.ensures c.in-Value-read_i32.is) (omega arith))

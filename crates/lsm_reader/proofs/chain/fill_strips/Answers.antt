@@ -1,12 +1,9 @@
 -- Two words a strip: after each turn the words of one strip more are the page's. Every write is inside, since the part lent has two words for
 -- each strip.
-use Prim.Native.Nat.{◌*◌, ◌-◌, ◌≤◌}
 use native.Mathlib.Omega.{arith}
-use mathlib.Core.Path.{◌≡◌, refl}
-use lib.ListN.{length, take, length-set}
+use mathlib.Core.Path.{refl}
+use lib.ListN.{length-set}
 use Rattle.lsm_format.specs.Code.{order_of}
-use Rattle.lsm_format.specs.Open.{strip_words}
-use Rattle.lsm_values.specs.Code.{values_of}
 use Rattle.lsm_reader.proofs.Walks.{strip_more, strips_all}
 use Rattle.lsm_reader.proofs.chain.fill_strips.Goals as goal
 

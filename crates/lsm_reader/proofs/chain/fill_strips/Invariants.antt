@@ -1,11 +1,9 @@
 use Prim.Native.Nat.{◌*◌, ◌-◌, ◌≤◌}
-use native.Mathlib.Omega.{arith}
-use mathlib.Core.Path.{◌≡◌, refl}
-use lib.ListN.{length, take, length-set}
+use mathlib.Core.Path.{◌≡◌}
+use lib.ListN.{length, take}
 use Rattle.lsm_format.specs.Code.{order_of}
 use Rattle.lsm_format.specs.Open.{strip_words}
 use Rattle.lsm_values.specs.Code.{values_of}
-use Rattle.lsm_reader.proofs.Walks.{strip_more, strips_all}
 use Rattle.lsm_reader.proofs.chain.fill_strips.Given as goal
 
 -- the words of the strips before i are there

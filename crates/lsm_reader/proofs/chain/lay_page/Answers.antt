@@ -9,7 +9,7 @@ use Rattle.lsm_reader.proofs.chain.lay_page.Goals as goal
 
 pub returns-then-is_reduced : goal.returns-then-is_reduced
 returns-then-is_reduced c =
-        rw (sym c.is_reduced.ensures ∙ c.if-is_reduced.true) (laid_nothing _ _ c.requires.0)
+    rw (sym c.is_reduced.ensures ∙ c.if-is_reduced.true) (laid_nothing _ _ c.requires.0)
 
 pub returns-then-table-used : goal.returns-then-table-used
 returns-then-table-used c =

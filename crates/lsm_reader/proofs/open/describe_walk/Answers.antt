@@ -7,7 +7,6 @@ use Rattle.lsm_format.specs.Open as Open
 use Rattle.lsm_format.proofs.Told.{told}
 use Rattle.lsm_cz_info.specs.Code.{cz_of}
 use Rattle.lsm_description.specs.Code.{sample_of}
-use Rattle.lsm_reader.proofs.open.describe_walk.Reads as reads
 use Rattle.lsm_reader.proofs.open.describe_walk.Goals as goal
 
 pub returns-in_default : goal.returns-in_default
@@ -21,12 +20,12 @@ returns-then-page-ne1 c = λ ps n. rw (c.in-Page.is, ne_eqb _ _ c.if-page-ne1.tr
 pub returns-in-Refused : goal.returns-in-Refused
 unfolding Open.describe_walk bind
 returns-in-Refused c =
-                λ ps n. rw (c.in-Page.is, eq-eqb _ _ c.if-page-ne1.false, told sample_of c.map_dtype.ensures c.in-Refused.is)
+    λ ps n. rw (c.in-Page.is, eq-eqb _ _ c.if-page-ne1.false, told sample_of c.map_dtype.ensures c.in-Refused.is)
 
 pub returns-in_default-entry : goal.returns-in_default-entry
 unfolding Open.describe_walk bind
 returns-in_default-entry c =
-                    λ ps n. rw (c.in-Page.is, eq-eqb _ _ c.if-page-ne1.false, told sample_of c.map_dtype.ensures c.in-Kind.is, c.in_default-entry.is)
+    λ ps n. rw (c.in-Page.is, eq-eqb _ _ c.if-page-ne1.false, told sample_of c.map_dtype.ensures c.in-Kind.is, c.in_default-entry.is)
 
 pub returns-in-Info : goal.returns-in-Info
 unfolding Open.describe_walk bind
@@ -36,4 +35,4 @@ returns-in-Info c =
 pub returns-in-Refused-parse : goal.returns-in-Refused-parse
 unfolding Open.describe_walk bind
 returns-in-Refused-parse c =
-                            λ ps n. rw (c.in-Page.is, eq-eqb _ _ c.if-page-ne1.false, told sample_of c.map_dtype.ensures c.in-Kind.is, c.in-Block.is, told cz_of c.parse.ensures c.in-Refused-parse.is)
+    λ ps n. rw (c.in-Page.is, eq-eqb _ _ c.if-page-ne1.false, told sample_of c.map_dtype.ensures c.in-Kind.is, c.in-Block.is, told cz_of c.parse.ensures c.in-Refused-parse.is)

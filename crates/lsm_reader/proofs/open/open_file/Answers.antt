@@ -1,15 +1,13 @@
 -- Each return is a case of `read`, in the order of its steps; a walk with a part of no words lent leaves the table as it was. The weight is
 -- in the last one: the second walk finds the pages that the first one found, and there is room for all their words. What `read` answers
 -- step by step is said once for each place of the code, below.
-use Prim.Native.Nat.{ℕ, ◌*◌, ◌^◌, ◌<◌}
-use mathlib.Core.List.{List}
+use Prim.Native.Nat.{◌*◌, ◌^◌, ◌<◌}
 use lib.ListN.{length}
 use native.Mathlib.Omega.{arith}
 use mathlib.Core.Path.{◌≡◌, refl}
 use Rattle.lsm_format.specs.Answer.{accepted}
 use Rattle.lsm_format.specs.Code.{order_of}
-use Rattle.lsm_format.specs.Numbers.{Order}
-use Rattle.lsm_format.specs.Open.{Page, Walk, Opened, tiff_header, walk, describe_walk, table_words, read}
+use Rattle.lsm_format.specs.Open.{tiff_header, walk, describe_walk, table_words, read}
 use Rattle.lsm_format.proofs.Told.{told}
 use Rattle.lsm_description.specs.Code.{described_of, description_of}
 use Rattle.lsm_reader.specs.Header.{header_of}
@@ -17,7 +15,6 @@ use Rattle.lsm_reader.specs.Opening.{strips_of}
 use Rattle.lsm_reader.specs.Walked.{walk_of}
 use Rattle.lsm_reader.proofs.Opens.{read_large, read_no_header, read_no_walk, read_no_description, read_is, not_opened, not_opened_after, too_short_after, opened_after, walked_refused, walked_as, walked_pages, same_pages}
 use Rattle.lsm_reader.proofs.Words.{walked_words}
-use Rattle.lsm_reader.proofs.open.open_file.Reads as reads
 use borrow.Author.Rules.{rules}
 use Rattle.lsm_reader.proofs.open.open_file.Goals as goal
 
@@ -30,7 +27,7 @@ returns-then-buf-gt-MAX_MMAP_BYTES c = not_opened _ _ _ (read_large _ c.if-buf-g
 
 pub returns-in-Refused : goal.returns-in-Refused
 returns-in-Refused c =
-        not_opened _ _ _ (read_no_header _ c.if-buf-gt-MAX_MMAP_BYTES.false _ (told header_of c.read_tiff_header.ensures c.in-Refused.is))
+    not_opened _ _ _ (read_no_header _ c.if-buf-gt-MAX_MMAP_BYTES.false _ (told header_of c.read_tiff_header.ensures c.in-Refused.is))
 
 pub returns-in-Refused-walk_chain : goal.returns-in-Refused-walk_chain
 returns-in-Refused-walk_chain c =

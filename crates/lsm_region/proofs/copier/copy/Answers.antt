@@ -1,8 +1,7 @@
 -- `lsm_region::copier::copy` meets its contract: the first i bytes are src's. Assumes nothing.
-use mathlib.Core.Path.{◌≡◌, refl}
-use Prim.Native.Nat.{◌≤◌, ◌-◌}
+use mathlib.Core.Path.{refl}
 use native.Mathlib.Omega.{arith}
-use lib.ListN.{length, take, length-set}
+use lib.ListN.{length-set}
 use Rattle.lsm_format.proofs.Lists.{take_store, take_full}
 use borrow.Author.Rules.{rules}
 use Rattle.lsm_region.proofs.copier.copy.Goals as goal

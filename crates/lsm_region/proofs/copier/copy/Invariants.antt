@@ -1,8 +1,6 @@
-use mathlib.Core.Path.{◌≡◌, refl}
+use mathlib.Core.Path.{◌≡◌}
 use Prim.Native.Nat.{◌≤◌, ◌-◌}
-use native.Mathlib.Omega.{arith}
-use lib.ListN.{length, take, length-set}
-use Rattle.lsm_format.proofs.Lists.{take_store, take_full}
+use lib.ListN.{length, take}
 use Rattle.lsm_region.proofs.copier.copy.Given as goal
 
 abbrev pub invariant-loop-i : goal.invariant-loop-i

@@ -36,7 +36,7 @@ gather-requires c =
 
 pub returns-then-s-eq1 : goal.returns-then-s-eq1
 returns-then-s-eq1 c =
-            from_one _ _ _ _ _ _ (rw c.size_bytes-s.ensures at c.gather.ensures) (sym c.size_bytes-s.ensures ∙ c.if-s-eq1.true)
+    from_one _ _ _ _ _ _ (rw c.size_bytes-s.ensures at c.gather.ensures) (sym c.size_bytes-s.ensures ∙ c.if-s-eq1.true)
 
 pub overflow_mul-rect-in-Big : goal.overflow_mul-rect-in-Big
 overflow_mul-rect-in-Big c =
@@ -52,8 +52,8 @@ turn-requires c =
 
 pub returns-in-Big : goal.returns-in-Big
 returns-in-Big c =
-                from_big _ _ _ _ _ _ (rw c.size_bytes-s.ensures at c.gather.ensures) _ (ap order_of c.in-Big.is) (rw c.size_bytes-s.ensures at c.turn.ensures)
+    from_big _ _ _ _ _ _ (rw c.size_bytes-s.ensures at c.gather.ensures) _ (ap order_of c.in-Big.is) (rw c.size_bytes-s.ensures at c.turn.ensures)
 
 pub returns-in_default : goal.returns-in_default
 returns-in_default c =
-            from_little _ _ _ _ _ _ (rw c.size_bytes-s.ensures at c.gather.ensures) (ap order_of c.in_default.is)
+    from_little _ _ _ _ _ _ (rw c.size_bytes-s.ensures at c.gather.ensures) (ap order_of c.in_default.is)

@@ -1,10 +1,10 @@
 -- `lsm_region::copier::rows_into` meets its contract: i rows are there, and the cursor is `ahead` rows before the next one. Assumes nothing.
 use native.Mathlib.Omega.{arith}
-use Prim.Native.Nat.{◌+◌, ◌-◌, ◌*◌, ◌≤◌}
+use Prim.Native.Nat.{◌+◌, ◌*◌, ◌≤◌}
 use native.Mathlib.Nat.{zero-mul}
-use mathlib.Core.Path.{◌≡◌, refl, ap, ◌∙◌}
-use lib.ListN.{length, take}
-use Rattle.lsm_format.specs.Picture.{stored, span, bytes}
+use mathlib.Core.Path.{refl, ap, ◌∙◌}
+use lib.ListN.{length}
+use Rattle.lsm_format.specs.Picture.{span}
 use Rattle.lsm_format.proofs.Picture.{bytes_length}
 use Rattle.lsm_region.specs.Cursor.{Stands}
 use Rattle.lsm_region.proofs.Filling.{part_in, part_length, part_step, parts_done}

@@ -1,13 +1,8 @@
-use native.Mathlib.Omega.{arith}
 use Prim.Native.Nat.{◌+◌, ◌-◌, ◌*◌, ◌≤◌}
-use native.Mathlib.Nat.{zero-mul}
-use mathlib.Core.Path.{◌≡◌, refl, ap, ◌∙◌}
+use mathlib.Core.Path.{◌≡◌}
 use lib.ListN.{length, take}
 use Rattle.lsm_format.specs.Picture.{stored, span, bytes}
-use Rattle.lsm_format.proofs.Picture.{bytes_length}
 use Rattle.lsm_region.specs.Cursor.{Stands}
-use Rattle.lsm_region.proofs.Filling.{part_in, part_length, part_step, parts_done}
-use Rattle.lsm_region.proofs.Walking.{stands_start, stands_as, stands_then, stands_on, stands_left, stands_inside, stands_bytes, row_in, row_next, row_first, row_after}
 use Rattle.lsm_region.proofs.copier.rows_into.Given as goal
 
 abbrev pub invariant-loop-i : goal.invariant-loop-i

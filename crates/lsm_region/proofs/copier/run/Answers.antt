@@ -4,12 +4,11 @@ use Prim.Native.Nat.{◌+◌, ◌-◌, ◌<◌, ◌≤◌}
 use native.Mathlib.Nat.{add_assoc, add-zero}
 use mathlib.Core.Path.{◌≡◌, refl, sym, ◌∙◌}
 use mathlib.Core.Bool.{true}
-use lib.ListN.{length, take}
+use lib.ListN.{length}
 use mir.Syntax.{w64}
 use mir.Val.{Fits}
-use Rattle.lsm_format.specs.Picture.{offset_of, count_of, stored, inside, span, bytes}
+use Rattle.lsm_format.specs.Picture.{offset_of, count_of, inside, span, bytes}
 use Rattle.lsm_format.proofs.Picture.{inside_head}
-use Rattle.lsm_region.specs.Cursor.{Stands}
 use Rattle.lsm_region.proofs.Filling.{less_by, less_fits, less_leaves}
 use Rattle.lsm_region.proofs.Walking.{stands_start, stands_as, stands_past, stands_on, stands_more, run_step, run_done}
 use Rattle.lsm_region.proofs.copier.run.Goals as goal
@@ -104,7 +103,7 @@ overflow_add-at-else-count-into c =
     let copied : (c.loop-at.at + c.less-m.result ≤ length c.loop-at.out)
     × (c.loop-at.into + c.less-m.result
     ≤ count_of c.args.table.now c.loop-at.i)
-    × (0 < c.less-m.result) = 
+    × (0 < c.less-m.result) =
     (less_fits c.loop-at-test.true c.less-m.ensures.upper_bound.1, less_fits c.if-count-into.false c.less-m.ensures.upper_bound.0, c.less-m.ensures.result_nonzero (less_leaves c.if-count-into.false) (less_leaves c.loop-at-test.true)) in
     let reached : Fits w64 (c.loop-at.at + c.less-m.result) = omega (arith, copied.0) in
     reached
@@ -114,7 +113,7 @@ loop-at-smaller c =
     let copied : (c.loop-at.at + c.less-m.result ≤ length c.loop-at.out)
     × (c.loop-at.into + c.less-m.result
     ≤ count_of c.args.table.now c.loop-at.i)
-    × (0 < c.less-m.result) = 
+    × (0 < c.less-m.result) =
     (less_fits c.loop-at-test.true c.less-m.ensures.upper_bound.1, less_fits c.if-count-into.false c.less-m.ensures.upper_bound.0, c.less-m.ensures.result_nonzero (less_leaves c.if-count-into.false) (less_leaves c.loop-at-test.true)) in
     let m = copied in
     less_by _ _ _ _ _ c.out-1.given.1 m.2 m.0
@@ -124,7 +123,7 @@ loop-at-preserved c =
     let copied : (c.loop-at.at + c.less-m.result ≤ length c.loop-at.out)
     × (c.loop-at.into + c.less-m.result
     ≤ count_of c.args.table.now c.loop-at.i)
-    × (0 < c.less-m.result) = 
+    × (0 < c.less-m.result) =
     (less_fits c.loop-at-test.true c.less-m.ensures.upper_bound.1, less_fits c.if-count-into.false c.less-m.ensures.upper_bound.0, c.less-m.ensures.result_nonzero (less_leaves c.if-count-into.false) (less_leaves c.loop-at-test.true)) in
     let more : c.loop-at.i < c.args.end = stands_more c.loop-at.invariant.2 (omega (arith, c.requires.out_bound)) in
     let lies : (offset_of c.args.table.now c.loop-at.i + count_of c.args.table.now c.loop-at.i ≤ length c.args.file.now)

@@ -1,16 +1,9 @@
-use native.Mathlib.Omega.{arith}
-use Prim.Native.Nat.{◌+◌, ◌-◌, ◌<◌, ◌≤◌}
-use native.Mathlib.Nat.{add_assoc, add-zero}
-use mathlib.Core.Path.{◌≡◌, refl, sym, ◌∙◌}
+use Prim.Native.Nat.{◌+◌, ◌-◌, ◌≤◌}
+use mathlib.Core.Path.{◌≡◌}
 use mathlib.Core.Bool.{true}
 use lib.ListN.{length, take}
-use mir.Syntax.{w64}
-use mir.Val.{Fits}
-use Rattle.lsm_format.specs.Picture.{offset_of, count_of, stored, inside, span, bytes}
-use Rattle.lsm_format.proofs.Picture.{inside_head}
+use Rattle.lsm_format.specs.Picture.{stored, inside, bytes}
 use Rattle.lsm_region.specs.Cursor.{Stands}
-use Rattle.lsm_region.proofs.Filling.{less_by, less_fits, less_leaves}
-use Rattle.lsm_region.proofs.Walking.{stands_start, stands_as, stands_past, stands_on, stands_more, run_step, run_done}
 use Rattle.lsm_region.proofs.copier.run.Given as goal
 
 abbrev pub invariant-loop-at : goal.invariant-loop-at

@@ -3,7 +3,6 @@ use native.Mathlib.Omega.{arith}
 use Prim.Native.Nat.{◌+◌, ◌-◌, ◌*◌, ◌^◌, ◌<◌, ◌≤◌}
 use native.Mathlib.Nat.{mod-lt}
 use mathlib.Core.Path.{refl}
-use Rattle.lsm_region.specs.Cursor.{Stands}
 use Rattle.lsm_region.proofs.Walking.{stands_start, stands_as, stands_past, stands_more, ahead_here, ahead_none}
 use Rattle.lsm_strips.proofs.Judging.{ahead_past, ahead_fits, ahead_over}
 use Rattle.lsm_format.specs.Picture.{count_of}
@@ -66,7 +65,7 @@ loop-ahead-preserved-then-ahead-here c = (omega arith, stands_as refl (ahead_her
 
 pub overflow_sub-into-else-ahead-here : goal.overflow_sub-into-else-ahead-here
 overflow_sub-into-else-ahead-here c =
-        omega (arith, mod-lt (count_of c.args.table.now c.loop-ahead.i - c.loop-ahead.into) c.requires.end_in_bounds.2)
+    omega (arith, mod-lt (count_of c.args.table.now c.loop-ahead.i - c.loop-ahead.into) c.requires.end_in_bounds.2)
 
 pub overflow_add-ahead : goal.overflow_add-ahead
 overflow_add-ahead c = omega (arith, c.if-ahead-here.false)

@@ -1,11 +1,5 @@
-use native.Mathlib.Omega.{arith}
-use Prim.Native.Nat.{◌+◌, ◌-◌, ◌*◌, ◌^◌, ◌<◌, ◌≤◌}
-use native.Mathlib.Nat.{mod-lt}
-use mathlib.Core.Path.{refl}
+use Prim.Native.Nat.{◌+◌, ◌-◌, ◌*◌, ◌≤◌}
 use Rattle.lsm_region.specs.Cursor.{Stands}
-use Rattle.lsm_region.proofs.Walking.{stands_start, stands_as, stands_past, stands_more, ahead_here, ahead_none}
-use Rattle.lsm_strips.proofs.Judging.{ahead_past, ahead_fits, ahead_over}
-use Rattle.lsm_format.specs.Picture.{count_of}
 use Rattle.lsm_region.proofs.copier.seek.Given as goal
 
 abbrev pub invariant-loop-ahead : goal.invariant-loop-ahead

@@ -1,12 +1,9 @@
 -- `lsm_region::copier::turn` meets its contract: the samples before q are turned, and those from q on are as they were. Assumes nothing.
-use mathlib.Core.Path.{◌≡◌, refl, ◌∙◌}
-use mathlib.Core.List.{reverse}
-use Prim.Native.Nat.{◌+◌, ◌*◌, ◌≤◌, ◌-◌}
+use mathlib.Core.Path.{refl, ◌∙◌}
+use Prim.Native.Nat.{◌+◌, ◌*◌, ◌≤◌}
 use native.Mathlib.Nat.{zero-mul}
 use native.Mathlib.Omega.{arith}
-use lib.ListN.{length, take, drop}
-use Rattle.lsm_format.specs.Picture.{span, bytes}
-use Rattle.lsm_format.proofs.Picture.{held}
+use Rattle.lsm_format.specs.Picture.{span}
 use Rattle.lsm_region.proofs.Filling.{part_in, part_length, turn_step, parts_done}
 use Rattle.lsm_region.proofs.copier.turn.Goals as goal
 

@@ -1,12 +1,9 @@
-use mathlib.Core.Path.{◌≡◌, refl, ◌∙◌}
+use mathlib.Core.Path.{◌≡◌}
 use mathlib.Core.List.{reverse}
-use Prim.Native.Nat.{◌+◌, ◌*◌, ◌≤◌, ◌-◌}
-use native.Mathlib.Nat.{zero-mul}
-use native.Mathlib.Omega.{arith}
+use Prim.Native.Nat.{◌*◌, ◌≤◌, ◌-◌}
 use lib.ListN.{length, take, drop}
 use Rattle.lsm_format.specs.Picture.{span, bytes}
 use Rattle.lsm_format.proofs.Picture.{held}
-use Rattle.lsm_region.proofs.Filling.{part_in, part_length, turn_step, parts_done}
 use Rattle.lsm_region.proofs.copier.turn.Given as goal
 
 abbrev pub invariant-loop-q : goal.invariant-loop-q

@@ -6,11 +6,11 @@ use Rattle.lsm_strips.proofs.checks.plane_strips.Goals as goal
 
 pub sized_strips-requires : goal.sized_strips-requires
 sized_strips-requires c =
-        record {
+    record {
       c_bound = c.requires;
       d_value = told bytes_of c.checked_plane_bytes.ensures c.in-Bytes.is;
     }
 
 pub returns-in-Refused : goal.returns-in-Refused
 returns-in-Refused c =
-        strips_oversized _ _ _ _ _ (told bytes_of c.checked_plane_bytes.ensures c.in-Refused.is)
+    strips_oversized _ _ _ _ _ (told bytes_of c.checked_plane_bytes.ensures c.in-Refused.is)

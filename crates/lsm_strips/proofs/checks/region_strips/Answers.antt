@@ -5,7 +5,6 @@ use borrow.Author.Tests.{not-true}
 use Rattle.lsm_format.specs.Answer.{accepted}
 use Rattle.lsm_format.specs.Code.{bytes_of}
 use Rattle.lsm_format.specs.Sizes.{picture_size}
-use Rattle.lsm_format.specs.Open.{Description}
 use Rattle.lsm_format.proofs.Region.{region_plane}
 use Rattle.lsm_format.proofs.Told.{told}
 use Rattle.lsm_description.specs.Code.{description_of}
@@ -28,7 +27,7 @@ returns-then-not-past_test c =
 
 pub window_strips-requires : goal.window_strips-requires
 window_strips-requires c =
-        record {
+    record {
       c_bound = c.requires.c_bound;
       lying = c.requires.lying;
       table_value = sym c.whole_rows.ensures ∙ c.if-whole_rows.true;
@@ -44,7 +43,7 @@ sized_strips-requires-else-whole_rows c =
 
 pub window_strips-requires-then-whole_rows-2 : goal.window_strips-requires-then-whole_rows-2
 window_strips-requires-then-whole_rows-2 c =
-        record {
+    record {
       c_bound = c.requires.c_bound;
       lying = c.requires.lying;
       table_value = sym c.whole_rows-in-Refused.ensures ∙ c.if-whole_rows-2.true;
@@ -61,4 +60,4 @@ returns-then-whole_rows-2 c = c.window_strips-then-whole_rows-2.ensures ∙ regi
 
 pub returns-else-whole_rows-2 : goal.returns-else-whole_rows-2
 returns-else-whole_rows-2 c =
-        region_oversized _ _ _ _ _ _ (told bytes_of c.checked_plane_bytes.ensures c.in-Refused.is) (sym c.whole_rows-in-Refused.ensures ∙ c.if-whole_rows-2.false)
+    region_oversized _ _ _ _ _ _ (told bytes_of c.checked_plane_bytes.ensures c.in-Refused.is) (sym c.whole_rows-in-Refused.ensures ∙ c.if-whole_rows-2.false)

@@ -2,7 +2,7 @@
 -- part of it that ends with the rectangle; where that row stands need not. Assumes nothing.
 use native.Mathlib.Omega.{arith}
 use native.Mathlib.Nat.{mul-le-mul_right}
-use Prim.Native.Nat.{ℕ, ◌+◌, ◌-◌, ◌*◌, ◌^◌, ◌<◌}
+use Prim.Native.Nat.{ℕ, ◌+◌, ◌*◌, ◌^◌, ◌<◌}
 use mathlib.Core.Path.{◌≡◌, sym, ap, ◌∙◌}
 use lib.ListN.{length}
 use borrow.Author.Tests.{not-true, not-false}
@@ -20,15 +20,15 @@ use Rattle.lsm_strips.proofs.checks.row_strips.Goals as goal
 
 pub overflow_add-last : goal.overflow_add-last
 overflow_add-last c =
-        omega (arith, c.requires.lying.bottom)
+    omega (arith, c.requires.lying.bottom)
 
 pub overflow_sub-last : goal.overflow_sub-last
 overflow_sub-last c =
-        omega (arith, c.requires.lying.rows)
+    omega (arith, c.requires.lying.rows)
 
 pub overflow_add-part : goal.overflow_add-part
 overflow_add-part c =
-        omega (arith, c.requires.lying.right)
+    omega (arith, c.requires.lying.right)
 
 pub overflow_mul-part : goal.overflow_mul-part
 overflow_mul-part c =

@@ -29,4 +29,4 @@ returns-in-Refused-strips_in_turn c =
 
 pub returns-in-Refused : goal.returns-in-Refused
 returns-in-Refused c =
-        strips_nowhere _ _ _ _ _ _ c.requires.d_value (told found_of c.channel_strips.ensures c.in-Refused.is)
+    strips_nowhere _ _ _ _ _ _ c.requires.d_value (told found_of c.channel_strips.ensures c.in-Refused.is)

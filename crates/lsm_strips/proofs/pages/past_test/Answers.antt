@@ -10,8 +10,8 @@ returns-in_default c = past_nowhere _ _ (told index_of (c.page_index.ensures _) 
 
 pub returns-in-Pages : goal.returns-in-Pages
 returns-in-Pages c =
-            past_by_lem _ _ _ (told index_of (c.page_index.ensures _) c.in-Page.is) _ (told pages_of c.expected_pages.ensures c.in-Pages.is)
+    past_by_lem _ _ _ (told index_of (c.page_index.ensures _) c.in-Page.is) _ (told pages_of c.expected_pages.ensures c.in-Pages.is)
 
 pub returns-in-Refused : goal.returns-in-Refused
 returns-in-Refused c =
-            past_over _ _ _ (told index_of (c.page_index.ensures _) c.in-Page.is) _ (told pages_of c.expected_pages.ensures c.in-Refused.is) (omega arith)
+    past_over _ _ _ (told index_of (c.page_index.ensures _) c.in-Page.is) _ (told pages_of c.expected_pages.ensures c.in-Refused.is) (omega arith)

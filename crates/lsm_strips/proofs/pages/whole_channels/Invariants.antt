@@ -1,11 +1,7 @@
-use native.Mathlib.Omega.{arith}
 use Prim.Native.Nat.{ℕ, ◌+◌, ◌*◌, ◌-◌, ◌<◌, ◌≤◌}
-use native.Mathlib.Nat.{suc-mul, mul-le-mul_right, not-suc-le-zero}
-use mathlib.Core.Path.{◌≡◌, sym, ◌∙◌}
+use mathlib.Core.Path.{◌≡◌}
 use mathlib.Core.Bool.{true}
-use borrow.Author.Tests.{not-true, not-false}
 use Rattle.lsm_format.specs.Picture.{whole_rows_of}
-use Rattle.lsm_strips.proofs.Judging.{channels_whole, channels_broken, up_to}
 use Rattle.lsm_strips.proofs.pages.whole_channels.Given as goal
 
 abbrev pub invariant-loop-c : goal.invariant-loop-c

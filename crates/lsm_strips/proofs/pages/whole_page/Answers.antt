@@ -13,7 +13,7 @@ use Rattle.lsm_strips.proofs.pages.whole_page.Goals as goal
 
 pub returns-in_default : goal.returns-in_default
 returns-in_default c =
-        page_lost (description_of c.args.d) c.args.table.now _ (omega arith) (told_overflow _ c.checked_mul.ensures c.in_default.is)
+    page_lost (description_of c.args.d) c.args.table.now _ (omega arith) (told_overflow _ c.checked_mul.ensures c.in_default.is)
 
 pub overflow_mul-page : goal.overflow_mul-page
 overflow_mul-page c =

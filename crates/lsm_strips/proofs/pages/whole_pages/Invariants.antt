@@ -1,11 +1,8 @@
-use native.Mathlib.Omega.{arith}
 use Prim.Native.Nat.{◌-◌, ◌≤◌}
-use mathlib.Core.Path.{◌≡◌, sym, ◌∙◌}
+use mathlib.Core.Path.{◌≡◌}
 use mathlib.Core.Bool.{true}
-use borrow.Author.Tests.{not-true, not-false}
 use Rattle.lsm_format.specs.Picture.{whole_pages}
 use Rattle.lsm_description.specs.Code.{description_of}
-use Rattle.lsm_strips.proofs.Judging.{pages_none, pages_step, pages_not, pages_all}
 use Rattle.lsm_strips.proofs.pages.whole_pages.Given as goal
 
 abbrev pub invariant-loop-page : goal.invariant-loop-page

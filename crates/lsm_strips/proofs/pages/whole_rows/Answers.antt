@@ -14,7 +14,7 @@ use Rattle.lsm_strips.proofs.pages.whole_rows.Goals as goal
 
 pub returns-in_default : goal.returns-in_default
 returns-in_default c =
-        whole_wide _ _ (rw c.size_bytes.ensures at (told_overflow _ c.checked_mul.ensures c.in_default.is))
+    whole_wide _ _ (rw c.size_bytes.ensures at (told_overflow _ c.checked_mul.ensures c.in_default.is))
 
 pub returns-then-row-eq0 : goal.returns-then-row-eq0
 returns-then-row-eq0 c =

@@ -1,10 +1,7 @@
-use native.Mathlib.Omega.{arith}
 use Prim.Native.Nat.{◌+◌}
-use mathlib.Core.Path.{◌≡◌, refl, sym, ◌∙◌}
-use borrow.Author.Tests.{eq-eqb, ne_eqb, not-true, not-false}
+use mathlib.Core.Path.{◌≡◌}
 use Rattle.lsm_format.specs.Answer.{decode}
 use Rattle.lsm_format.specs.Picture.{in_turn}
-use Rattle.lsm_format.proofs.Picture.{turn_none, turn_outside, turn_over, turn_next}
 use Rattle.lsm_strips.proofs.strips.strips_in_turn.Given as goal
 
 abbrev pub invariant-loop-left : goal.invariant-loop-left

@@ -1,10 +1,6 @@
-use native.Mathlib.Omega.{arith}
 use Prim.Native.Nat.{◌+◌}
-use mathlib.Core.Path.{◌≡◌, refl, sym, ◌∙◌}
-use borrow.Author.Tests.{leb-true, leb-false, not-true, not-false}
+use mathlib.Core.Path.{◌≡◌}
 use Rattle.lsm_format.specs.Picture.{inside}
-use Rattle.lsm_format.proofs.Picture.{inside_past, inside_next}
-use Rattle.lsm_strips.proofs.Judging.{inside_all}
 use Rattle.lsm_strips.proofs.strips.strips_inside.Given as goal
 
 abbrev pub invariant-loop-left : goal.invariant-loop-left

@@ -1,8 +1,6 @@
-use native.Mathlib.Omega.{arith}
 use Prim.Native.Nat.{◌+◌}
-use mathlib.Core.Path.{◌≡◌, refl, sym, ◌∙◌}
+use mathlib.Core.Path.{◌≡◌}
 use Rattle.lsm_format.specs.Picture.{whole_rows_of}
-use Rattle.lsm_strips.proofs.Judging.{rows_none, rows_odd, rows_over, rows_next}
 use Rattle.lsm_strips.proofs.strips.strips_of_rows.Given as goal
 
 abbrev pub invariant-loop-left : goal.invariant-loop-left

@@ -1,10 +1,7 @@
-use native.Mathlib.Omega.{arith}
-use native.Mathlib.Nat.{mod-lt}
-use Prim.Native.Nat.{◌+◌, ◌-◌, ◌*◌, ◌≤◌}
-use mathlib.Core.Path.{◌≡◌, refl, sym, ◌∙◌}
+use Prim.Native.Nat.{◌+◌, ◌*◌, ◌≤◌}
+use mathlib.Core.Path.{◌≡◌}
 use lib.Dec.{leb}
-use Rattle.lsm_format.specs.Picture.{count_of, total}
-use Rattle.lsm_strips.proofs.Judging.{reach_past, reach_here, reach_over, reach_no_rows, reach_end}
+use Rattle.lsm_format.specs.Picture.{total}
 use Rattle.lsm_strips.proofs.strips.strips_reach.Given as goal
 
 -- the strips from here on reach what is left of the rows and bytes, just where all of them reach all of it

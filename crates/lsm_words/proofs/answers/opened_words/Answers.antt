@@ -1,12 +1,8 @@
 -- `lsm_words::answers::opened_words` meets its contract: what is copied so far, with the three words before it, is the front of the answer.
 -- Assumes nothing.
-use Prim.Native.Nat.{◌-◌, ◌+◌, ◌≤◌}
 use native.Mathlib.Omega.{arith}
-use mathlib.Core.Path.{◌≡◌, refl}
-use mathlib.Core.List.{◌∷◌}
-use lib.ListN.{length, take, length-set}
-use Rattle.lsm_words.specs.Description.{description_length}
-use Rattle.lsm_words.specs.Answers.{open_length}
+use mathlib.Core.Path.{refl}
+use lib.ListN.{length-set}
 use Rattle.lsm_words.proofs.Answered.{word_more, words_all}
 use borrow.Author.Rules.{rules}
 use Rattle.lsm_words.proofs.answers.opened_words.Goals as goal

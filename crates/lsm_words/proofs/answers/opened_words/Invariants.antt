@@ -1,11 +1,9 @@
 use Prim.Native.Nat.{◌-◌, ◌+◌, ◌≤◌}
-use native.Mathlib.Omega.{arith}
-use mathlib.Core.Path.{◌≡◌, refl}
+use mathlib.Core.Path.{◌≡◌}
 use mathlib.Core.List.{◌∷◌}
-use lib.ListN.{length, take, length-set}
+use lib.ListN.{length, take}
 use Rattle.lsm_words.specs.Description.{description_length}
 use Rattle.lsm_words.specs.Answers.{open_length}
-use Rattle.lsm_words.proofs.Answered.{word_more, words_all}
 use Rattle.lsm_words.proofs.answers.opened_words.Given as goal
 
 abbrev pub invariant-loop-i : goal.invariant-loop-i

@@ -1,9 +1,7 @@
 -- `lsm_words::description::read_description` meets its contract: of order, kind, size and block the first that refuses decides (`no_order`
 -- to `no_block`). The other words are numbers and taken as they are (`described_is`). The rest is that each word read is inside the array.
 -- Assumes nothing.
-use Prim.Native.Nat.{ℕ}
 use mathlib.Core.Path.{◌≡◌}
-use mathlib.Core.List.{List}
 use lib.ListN.{get_or}
 use Rattle.lsm_format.proofs.Told.{told}
 use Rattle.lsm_description.specs.Code.{sample_of}

@@ -11,17 +11,17 @@ returns-in-Refused c = sized_no_x _ _ _ _ _ (told float_answer_of c.float_of.ens
 
 pub returns-in-Refused-float_of : goal.returns-in-Refused-float_of
 returns-in-Refused-float_of c =
-        sized_no_y _ _ _ _ _ (told float_answer_of c.float_of.ensures c.in-Value.is)
+    sized_no_y _ _ _ _ _ (told float_answer_of c.float_of.ensures c.in-Value.is)
     _ (told float_answer_of c.float_of-2.ensures c.in-Refused-float_of.is)
 
 pub returns-in-Step : goal.returns-in-Step
 returns-in-Step c =
-            sized_is _ _ _ _ _ (told float_answer_of c.float_of.ensures c.in-Value.is)
+    sized_is _ _ _ _ _ (told float_answer_of c.float_of.ensures c.in-Value.is)
     _ (told float_answer_of c.float_of-2.ensures c.in-Value-float_of.is)
     _ (told step_answer_of c.step_of.ensures c.in-Step.is)
 
 pub returns-in-Refused-step_of : goal.returns-in-Refused-step_of
 returns-in-Refused-step_of c =
-            sized_no_step _ _ _ _ _ (told float_answer_of c.float_of.ensures c.in-Value.is)
+    sized_no_step _ _ _ _ _ (told float_answer_of c.float_of.ensures c.in-Value.is)
     _ (told float_answer_of c.float_of-2.ensures c.in-Value-float_of.is)
     _ (told step_answer_of c.step_of.ensures c.in-Refused-step_of.is)
