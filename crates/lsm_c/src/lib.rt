@@ -14,11 +14,7 @@ use lsm_words::description::{DESCRIPTION_WORDS, read_description};
 pub mod pictures;
 
 // Opens a file and writes its strips into the table.
-pub fn lsm_open(
-    file: &[u8],
-    table: &mut [usize],
-    answer: &mut [usize; OPEN_WORDS],
-) -> usize
+pub fn lsm_open(file: &[u8], table: &mut [usize], answer: &mut [usize; OPEN_WORDS]) -> usize
     ensures { OpenedBy file.now table.old table.new answer.new result }
 {
     let opened = open_words(open_file(file, table));

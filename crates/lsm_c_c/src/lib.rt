@@ -71,5 +71,19 @@ pub extern "C" fn lsm_region(
 ) -> usize
     ensures { PicturedBy (region_by description.now table.now file.now (coordinate scene t c z) (record { x = x; y = y; w = w; h = h })) out.old out.new answer.new result }
 {
-    lsm_c::pictures::lsm_region(file, description, table, scene, t, c, z, x, y, w, h, out, answer)
+    lsm_c::pictures::lsm_region(
+        file,
+        description,
+        table,
+        scene,
+        t,
+        c,
+        z,
+        x,
+        y,
+        w,
+        h,
+        out,
+        answer,
+    )
 }

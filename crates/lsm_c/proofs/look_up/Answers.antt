@@ -7,8 +7,8 @@ use Rattle.lsm_c.proofs.look_up.Goals as goal
 
 pub returns-in-Described : goal.returns-in-Described
 returns-in-Described c =
-            described _ _ _ _ _ _ _ (told described_of c.read_description.ensures c.in-Described.is) c.channel.ensures
+    described _ _ _ _ _ _ _ (told described_of c.read_description.ensures c.in-Described.is) c.channel.ensures
 
 pub returns-in-Refused : goal.returns-in-Refused
 returns-in-Refused c =
-        no_description _ _ _ _ _ (told described_of c.read_description.ensures c.in-Refused.is)
+    no_description _ _ _ _ _ (told described_of c.read_description.ensures c.in-Refused.is)

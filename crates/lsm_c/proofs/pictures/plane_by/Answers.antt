@@ -9,9 +9,9 @@ use Rattle.lsm_c.proofs.pictures.plane_by.Goals as goal
 pub returns-in-Described : goal.returns-in-Described
 unfolding plane_by
 returns-in-Described c =
-            pictured_with _ _ _ (told described_of c.read_description.ensures c.in-Described.is) c.plane.ensures
+    pictured_with _ _ _ (told described_of c.read_description.ensures c.in-Described.is) c.plane.ensures
 
 pub returns-in-Refused : goal.returns-in-Refused
 unfolding plane_by
 returns-in-Refused c =
-        pictured_not _ _ _ _ (told described_of c.read_description.ensures c.in-Refused.is)
+    pictured_not _ _ _ _ (told described_of c.read_description.ensures c.in-Refused.is)
