@@ -1,0 +1,16 @@
+use Prim.Native.Nat.{◌≤◌, ◌-◌}
+use mathlib.Core.Path.{◌≡◌, sym, ap}
+use native.Mathlib.Omega.{arith}
+use lib.ListN.{length, take}
+use lib.Seq.{take_all}
+use Rattle.lsm_format.specs.Printout.{hex_bytes}
+use Rattle.lsm_printout.specs.Put.{Put}
+use Rattle.lsm_printout.proofs.Puts.{nothing, then, same}
+use Rattle.lsm_printout.proofs.Numbers.{hex_next}
+use Rattle.lsm_printout.proofs.text.put_hex_bytes.Given as goal
+
+abbrev pub invariant-loop-i : goal.invariant-loop-i
+invariant-loop-i l = (l.i ≤ length l.bytes) × (length l.out ≡ length l.initial.out) × Put (hex_bytes (take l.i l.bytes)) l.at l.initial.out l.out l.p
+
+abbrev pub decreases-loop-i : goal.decreases-loop-i
+decreases-loop-i l = length l.bytes - l.i
