@@ -50,6 +50,7 @@ pub(crate) enum FloatAnswer {
     Refused(Refusal),
 }
 
+#[tactic(auto, using(crate::proofs::Calibrations::float_nan, crate::proofs::Calibrations::float_is, crate::proofs::Calibrations::float_number))]
 fn float_of(word: usize) -> FloatAnswer
     ensures { float_answer_of result ≡ float_by word }
 {
