@@ -2,3 +2,4 @@ pub mod Numbers
 pub mod Lines
 pub mod Same
 pub mod Tallies
+pub mod Prefixes

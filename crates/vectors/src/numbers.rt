@@ -1,6 +1,6 @@
 // Hexadecimal numbers of a list of recorded answers.
 ghost use Rattle.std.specs.Prelude.{◌≡◌, true, ◌<◌, ◌≤◌, length};
-ghost use Rattle.io.specs.Counts.{IsPrefixLen};
+ghost use Rattle.vectors.specs.Prefixes.{IsPrefixLen};
 ghost use Rattle.vectors.specs.Numbers.{digit_of, holds_at, number_at, numbers_at, Reads};
 
 // The value of a hexadecimal digit; 16 for another byte.

@@ -1,8 +1,10 @@
 // How many lines of a list there were and how many differ, and what is printed of them.
-ghost use Rattle.std.specs.Prelude.{◌≡◌, cond, ◌≤◌};
-ghost use Rattle.vectors.specs.Tallies.{one_more};
+ghost use Rattle.std.specs.Prelude.{◌≡◌, cond, ◌≤◌, OnOk};
+ghost use Rattle.std.specs.Io.KnownBytes.{Appends};
+ghost use Rattle.vectors.specs.Tallies.{one_more, report_text};
 
-use libc::STDOUT_FILENO;
+use std::io;
+use std::io::Write;
 
 #[derive(Clone, Copy)]
 pub struct Tally {
@@ -47,11 +49,10 @@ impl Tally {
     }
 }
 
-// Writes how many lines of a list there are, and how many differ. No contract can say what is written.
-pub fn report(name: &[u8], t: Tally) {
-    io::write_all(STDOUT_FILENO, name);
-    io::print_decimal(STDOUT_FILENO, t.cases as u64);
-    io::write_all(STDOUT_FILENO, b", ");
-    io::print_decimal(STDOUT_FILENO, t.differ as u64);
-    io::write_all(STDOUT_FILENO, b" differ\n");
+// Writes how many lines of a list there are, and how many differ.
+pub fn report<W: Write>(out: &mut W, name: &[u8], t: Tally) -> io::Result<()>
+    ensures { OnOk result (Appends (W.contents out.old) (W.contents out.new) (report_text name.now t.cases t.differ)) }
+{
+    out.write_all(name)?;
+    writeln!(out, "{}, {} differ", t.cases, t.differ)
 }

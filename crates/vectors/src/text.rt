@@ -1,7 +1,7 @@
 // The lines of a list of recorded answers. A line is a letter, then hexadecimal numbers with a space before each, then a colon and
 // bytes where the case has any. Two digits are a byte, and `*NNBB` is NN bytes BB.
 ghost use Rattle.std.specs.Prelude.{◌≡◌, ◌++◌, ◌+◌, ◌-◌, ◌<◌, ◌≤◌, length, take, drop, replicate};
-ghost use Rattle.io.specs.Counts.{IsPrefixLen};
+ghost use Rattle.vectors.specs.Prefixes.{IsPrefixLen};
 ghost use Rattle.vectors.specs.Numbers.{over, Reads};
 ghost use Rattle.vectors.specs.Lines.{pair_at, run_at, bytes_at, tail_at, numbers_of, bytes_of, line_at, row_at};
 

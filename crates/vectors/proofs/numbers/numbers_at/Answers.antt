@@ -4,7 +4,7 @@ use native.Mathlib.Omega.{arith}
 use borrow.Author.Tests.{not-true, not-false}
 use mathlib.Core.Path.{sym, ◌∙◌}
 use lib.ListN.{length}
-use Rattle.io.proofs.Counting.{prefix_len_of_le}
+use Rattle.vectors.proofs.Prefixes.{prefix_len_of_le}
 use Rattle.vectors.specs.Numbers as Numbers
 use Rattle.vectors.specs.Numbers.{numbers_at}
 use Rattle.vectors.proofs.Digits.{numbers_more, numbers_stop, numbers_bare, numbers_full, numbers_from, numbers_past, Sofar, nothing_yet, one_more_lem, read_all, read_none}
@@ -13,11 +13,11 @@ use Rattle.vectors.proofs.numbers.numbers_at.Goals as goal
 
 pub returns-then-text-from : goal.returns-then-text-from
 returns-then-text-from c = record {
-      reads = read_none _ (numbers_past _ _ _ (omega arith));
-      short = search rules;
-      inside = omega arith;
-      onward = λ h. absurd (omega arith);
-    }
+  reads = read_none _ (numbers_past _ _ _ (omega arith));
+  short = search rules;
+  inside = omega arith;
+  onward = λ h. absurd (omega arith);
+}
 
 pub loop-n-init : goal.loop-n-init
 loop-n-init c = (nothing_yet _ _ _ (numbers_from _ _ _ (omega arith)), omega arith, omega arith)

@@ -3,7 +3,6 @@ use native.Mathlib.Omega.{arith}
 use borrow.Author.Tests.{not-true, not-false}
 use mathlib.Core.Path.{sym, ◌∙◌}
 use lib.ListN.{length}
-use Rattle.io.proofs.Counting.{prefix_len_of_le}
 use Rattle.vectors.specs.Numbers as Numbers
 use Rattle.vectors.specs.Numbers.{numbers_at}
 use Rattle.vectors.proofs.Digits.{numbers_more, numbers_stop, numbers_bare, numbers_full, numbers_from, numbers_past, Sofar, nothing_yet, one_more_lem, read_all, read_none}

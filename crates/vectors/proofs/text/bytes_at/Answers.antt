@@ -2,7 +2,7 @@
 use Prim.Native.Nat.{◌-◌, ◌≤◌}
 use native.Mathlib.Omega.{arith}
 use lib.ListN.{length}
-use Rattle.io.proofs.Counting.{prefix_len_of_le}
+use Rattle.vectors.proofs.Prefixes.{prefix_len_of_le}
 use Rattle.vectors.proofs.Digits.{Sofar, nothing_yet, read_all, read_none}
 use Rattle.vectors.specs.Lines as Lines
 use Rattle.vectors.specs.Lines.{bytes_at}
@@ -12,11 +12,11 @@ use Rattle.vectors.proofs.text.bytes_at.Goals as goal
 
 pub returns-then-text-from : goal.returns-then-text-from
 returns-then-text-from c = record {
-      reads = read_none _ (bytes_past _ _ _ (omega arith));
-      short = search rules;
-      inside = omega arith;
-      onward = λ h. absurd (omega arith);
-    }
+  reads = read_none _ (bytes_past _ _ _ (omega arith));
+  short = search rules;
+  inside = omega arith;
+  onward = λ h. absurd (omega arith);
+}
 
 pub loop-n-init : goal.loop-n-init
 loop-n-init c = (nothing_yet _ _ _ (bytes_from_lem _ _ _ (omega arith)), omega arith, omega arith)
@@ -41,8 +41,7 @@ returns-then-bytes-n c =
 
 pub loop-n-preserved : goal.loop-n-preserved
 loop-n-preserved c =
-    let run = c.run_at-run in
-    (
+    let run = c.run_at-run in (
       run_more run.result.times run.result.byte c.loop-n.invariant.0 (bytes_more _ _ _ _ run.result.times run.result.byte _ run.ensures.at_value (omega arith) (omega arith) (omega arith)) (omega arith) (omega arith) (omega arith)
           c.fill.ensures.bytes_after c.fill.ensures.bytes_unchanged,
       omega arith,

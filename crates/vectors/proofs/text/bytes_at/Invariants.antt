@@ -1,7 +1,6 @@
 use Prim.Native.Nat.{◌-◌, ◌≤◌}
 use native.Mathlib.Omega.{arith}
 use lib.ListN.{length}
-use Rattle.io.proofs.Counting.{prefix_len_of_le}
 use Rattle.vectors.proofs.Digits.{Sofar, nothing_yet, read_all, read_none}
 use Rattle.vectors.specs.Lines as Lines
 use Rattle.vectors.specs.Lines.{bytes_at}
