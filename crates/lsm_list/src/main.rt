@@ -2,11 +2,13 @@
 // longer one is told from it.
 #![tactic(auto)]
 
-use libc::STDIN_FILENO;
+use buffers::{read_full, zeros};
 use lsm_printout::print;
+use std::io;
 
-fn main() {
-    let mut file = [0u8; 65537];
-    let n = io::read_full(STDIN_FILENO, &mut file);
-    print(&file[..n]);
+fn main(rt: HostRuntime) -> io::Result<()> {
+    let mut file = zeros::<65537>();
+    let n = read_full(&mut rt.stdin(), &mut file)?;
+    print(&mut rt.stdout(), &file[..n])?;
+    Ok(())
 }

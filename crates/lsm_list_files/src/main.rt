@@ -2,10 +2,12 @@
 // its bytes. tools/list_files.py makes them.
 #![tactic(auto)]
 
-ghost use Rattle.std.specs.Prelude.{◌≡◌, ◌+◌, ◌≤◌, ◌<◌, length};
+ghost use Rattle.std.specs.Prelude.{◌≡◌, ◌+◌, ◌≤◌, ◌<◌, length, IfOk};
 
-use libc::STDIN_FILENO;
+use buffers::{read_full, zeros};
 use lsm_printout::print;
+use std::io;
+use std::io::Write;
 
 // The length at a place.
 fn length_at(all: &[u8], at: usize) -> usize
@@ -25,36 +27,37 @@ fn wide(b: u8) -> usize
 }
 
 // Lists the file at a place, and answers where the next begins: at the end where there is no whole file.
-fn next(all: &[u8], at: usize) -> usize
+fn next<W: Write>(out: &mut W, all: &[u8], at: usize) -> io::Result<usize>
     requires { at < length all.now }
-    ensures { (at < result) × (result ≤ length all.now) }
+    ensures { IfOk result (λ n. (at < n) × (n ≤ length all.now)) }
 {
     if all.len() - at < 4 {
-        return all.len();
+        return Ok(all.len());
     }
     let start = at + 4;
     let len = length_at(all, at);
     if all.len() - start < len {
-        return all.len();
+        return Ok(all.len());
     }
     let end = start + len;
-    print(&all[start..end]);
-    end
+    print(out, &all[start..end])?;
+    Ok(end)
 }
 
 // Lists them all, and answers where they end.
-fn list_all(all: &[u8]) -> usize
-    ensures { result ≡ length all.now }
+fn list_all<W: Write>(out: &mut W, all: &[u8]) -> io::Result<usize>
+    ensures { IfOk result (λ n. n ≡ length all.now) }
 {
     let mut at = 0;
     while at < all.len() {
-        at = next(all, at);
+        at = next(out, all, at)?;
     }
-    at
+    Ok(at)
 }
 
-fn main() {
-    let mut all = [0u8; 262144];
-    let n = io::read_full(STDIN_FILENO, &mut all);
-    list_all(&all[..n]);
+fn main(rt: HostRuntime) -> io::Result<()> {
+    let mut all = zeros::<262144>();
+    let n = read_full(&mut rt.stdin(), &mut all)?;
+    list_all(&mut rt.stdout(), &all[..n])?;
+    Ok(())
 }

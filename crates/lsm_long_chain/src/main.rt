@@ -5,9 +5,11 @@
 
 ghost use Rattle.std.specs.Prelude.{◌≡◌, ◌+◌, ◌≤◌, ◌<◌, length};
 
-use libc::STDOUT_FILENO;
+use buffers::zeros;
 use lsm_c::lsm_open;
 use lsm_words::answers::OPEN_WORDS;
+use std::io;
+use std::io::Write;
 
 // Where the directories begin, and the bytes of each: a count of 0, and the next pointer.
 const HEADER: usize = 8;
@@ -58,7 +60,7 @@ fn head(file: &mut [u8])
 }
 
 // Makes the file of the memory, opens it, and prints the number that opening returns.
-fn tell(name: &[u8], file: &mut [u8])
+fn tell<W: Write>(out: &mut W, name: &[u8], file: &mut [u8]) -> io::Result<()>
     requires { 8 ≤ length file.old }
     ensures { length file.new ≡ length file.old }
 {
@@ -66,30 +68,30 @@ fn tell(name: &[u8], file: &mut [u8])
     link(file);
     let mut answer = [0usize; OPEN_WORDS];
     let number = lsm_open(file, &mut [], &mut answer);
-    io::write_all(STDOUT_FILENO, name);
-    io::print_decimal(STDOUT_FILENO, number as u64);
-    io::write_all(STDOUT_FILENO, b"\n");
+    out.write_all(name)?;
+    writeln!(out, "{number}")
 }
 
 // The same with the first bytes of the memory, where there are as many.
-fn tell_of(name: &[u8], bytes: usize, file: &mut [u8])
+fn tell_of<W: Write>(out: &mut W, name: &[u8], bytes: usize, file: &mut [u8]) -> io::Result<()>
     requires { 8 ≤ bytes }
     ensures { length file.new ≡ length file.old }
 {
     if bytes <= file.len() {
-        tell(name, &mut file[..bytes]);
+        return tell(out, name, &mut file[..bytes]);
     }
+    Ok(())
 }
 
 // Both files in the memory, whose length is known from its type.
-fn tell_both(file: &mut [u8; ROOM])
+fn tell_both<W: Write>(out: &mut W, file: &mut [u8; ROOM]) -> io::Result<()>
     ensures { length file.new ≡ length file.old }
 {
-    tell_of(b"1000000 directories: ", ROOM - DIRECTORY, file);
-    tell_of(b"1000001 directories: ", ROOM, file);
+    tell_of(out, b"1000000 directories: ", ROOM - DIRECTORY, file)?;
+    tell_of(out, b"1000001 directories: ", ROOM, file)
 }
 
-fn main() {
-    let mut file = [0u8; ROOM];
-    tell_both(&mut file);
+fn main(rt: HostRuntime) -> io::Result<()> {
+    let mut file = zeros::<ROOM>();
+    tell_both(&mut rt.stdout(), &mut file)
 }

@@ -6,7 +6,8 @@ mod lines;
 mod sizes;
 mod text;
 
-ghost use Rattle.std.specs.Prelude.{◌≡◌, length};
+ghost use Rattle.std.specs.Prelude.{◌≡◌, length, IfOk, OnOk};
+ghost use Rattle.std.specs.Io.KnownBytes.{Appends};
 ghost use Rattle.lsm_format.specs.Printout.{text, head_lines, accepted_lines, channels_of, printout};
 ghost use Rattle.lsm_description.specs.Code.{description_of};
 ghost use Rattle.lsm_reader.specs.Opening.{opened_of};
@@ -17,9 +18,11 @@ use crate::channels::{put_channel_count, put_channels};
 use crate::lines::{put_dims, put_kind, put_refused, put_scene_count, put_scenes};
 use crate::sizes::{put_notes, put_pixel};
 use crate::text::put_bytes;
-use libc::STDOUT_FILENO;
+use buffers::zeros;
 use lsm_description::Description;
 use lsm_reader::open::{OpenAnswer, open_file};
+use std::io;
+use std::io::Write;
 
 // The longest file that is listed.
 const MOST: usize = 65_536;
@@ -79,20 +82,22 @@ fn list(buf: &[u8], out: &mut [u8]) -> usize
     put_answer(out, 0, buf, answer)
 }
 
-// Writes a file's printout, and nothing else, to standard output; answers its length.
-fn write_printout(_buf: &[u8], text: &[u8]) -> usize
+// Writes a file's printout, and nothing else; answers its length.
+fn write_printout<W: Write>(out: &mut W, _buf: &[u8], text: &[u8]) -> io::Result<usize>
     requires { text.now ≡ printout _buf.now }
-    ensures { result ≡ length (printout _buf.now) }
+    ensures value { IfOk result (λ n. n ≡ length (printout _buf.now)) }
+    ensures written { OnOk result (Appends (W.contents out.old) (W.contents out.new) (printout _buf.now)) }
 {
-    io::write_all(STDOUT_FILENO, text);
-    text.len()
+    out.write_all(text)?;
+    Ok(text.len())
 }
 
-// Lists a file and writes its printout to standard output; answers its length. Every printout has room in `out`.
-pub fn print(buf: &[u8]) -> usize
-    ensures { result ≡ length (printout buf.now) }
+// Lists a file and writes its printout, and nothing else; answers its length. Every printout has room in `text`.
+pub fn print<W: Write>(out: &mut W, buf: &[u8]) -> io::Result<usize>
+    ensures value { IfOk result (λ n. n ≡ length (printout buf.now)) }
+    ensures written { OnOk result (Appends (W.contents out.old) (W.contents out.new) (printout buf.now)) }
 {
-    let mut out = [0u8; 524288];
-    let n = list(buf, &mut out);
-    write_printout(buf, &out[..n])
+    let mut text = zeros::<524288>();
+    let n = list(buf, &mut text);
+    write_printout(out, buf, &text[..n])
 }

@@ -8,7 +8,8 @@ ghost use Rattle.std.specs.Prelude.{◌≡◌, true, ◌<◌, ◌≤◌, length}
 use crate::cz::block;
 use crate::ground::ground;
 use crate::voxels::voxels;
-use libc::STDIN_FILENO;
+use buffers::{read_full, zeros};
+use std::io;
 use vectors::report::{Tally, report};
 use vectors::text::{Row, row_at};
 
@@ -86,11 +87,12 @@ fn compare(text: &[u8]) -> Tallies
     }
 }
 
-fn main() {
-    let mut text = [0u8; 524288];
-    let n = io::read_full(STDIN_FILENO, &mut text);
+fn main(rt: HostRuntime) -> io::Result<()> {
+    let mut text = zeros::<524288>();
+    let n = read_full(&mut rt.stdin(), &mut text)?;
     let t = compare(&text[..n]);
-    report(b"ground ", t.ground);
-    report(b"calibration ", t.voxels);
-    report(b"cz ", t.blocks);
+    let mut out = rt.stdout();
+    report(&mut out, b"ground ", t.ground)?;
+    report(&mut out, b"calibration ", t.voxels)?;
+    report(&mut out, b"cz ", t.blocks)
 }

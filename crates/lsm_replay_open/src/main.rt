@@ -8,7 +8,8 @@ ghost use Rattle.std.specs.Prelude.{◌≡◌, true, ◌<◌, ◌≤◌, length}
 
 use crate::lookup::lookup;
 use crate::opening::opening;
-use libc::STDIN_FILENO;
+use buffers::{read_full, zeros};
+use std::io;
 use vectors::report::{Tally, report};
 
 mod in_c;
@@ -115,13 +116,14 @@ fn compare(text: &[u8]) -> Tallies
     }
 }
 
-fn main() {
-    let mut text = [0u8; 655360];
-    let n = io::read_full(STDIN_FILENO, &mut text);
+fn main(rt: HostRuntime) -> io::Result<()> {
+    let mut text = zeros::<655360>();
+    let n = read_full(&mut rt.stdin(), &mut text)?;
     let t = compare(&text[..n]);
-    report(b"openings ", t.openings);
-    report(b"channels ", t.lookups);
-    report(b"openings in C ", t.opened);
-    report(b"channels in C ", t.found);
-    report(b"descriptions in C ", t.described);
+    let mut out = rt.stdout();
+    report(&mut out, b"openings ", t.openings)?;
+    report(&mut out, b"channels ", t.lookups)?;
+    report(&mut out, b"openings in C ", t.opened)?;
+    report(&mut out, b"channels in C ", t.found)?;
+    report(&mut out, b"descriptions in C ", t.described)
 }

@@ -7,7 +7,8 @@
 ghost use Rattle.std.specs.Prelude.{◌≡◌, true, ◌<◌, ◌≤◌, length};
 
 use crate::picture::{Both, answers};
-use libc::STDIN_FILENO;
+use buffers::{read_full, zeros};
+use std::io;
 use vectors::report::{Tally, report};
 
 mod in_c;
@@ -98,13 +99,14 @@ fn compare(text: &[u8]) -> Tallies
     }
 }
 
-fn main() {
-    let mut text = [0u8; 524288];
-    let n = io::read_full(STDIN_FILENO, &mut text);
+fn main(rt: HostRuntime) -> io::Result<()> {
+    let mut text = zeros::<524288>();
+    let n = read_full(&mut rt.stdin(), &mut text)?;
     let t = compare(&text[..n]);
-    report(b"planes ", t.planes);
-    report(b"rectangles ", t.rectangles);
-    report(b"planes in C ", t.pictured);
-    report(b"rectangles in C ", t.windowed);
-    report(b"handed in, in C ", t.handed);
+    let mut out = rt.stdout();
+    report(&mut out, b"planes ", t.planes)?;
+    report(&mut out, b"rectangles ", t.rectangles)?;
+    report(&mut out, b"planes in C ", t.pictured)?;
+    report(&mut out, b"rectangles in C ", t.windowed)?;
+    report(&mut out, b"handed in, in C ", t.handed)
 }

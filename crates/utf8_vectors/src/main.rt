@@ -6,7 +6,8 @@
 ghost use Rattle.std.specs.Prelude.{◌≡◌, true, ◌<◌, ◌≤◌, length};
 ghost use Rattle.lsm_format.specs.Utf8.{lossy};
 
-use libc::{STDIN_FILENO, STDOUT_FILENO};
+use buffers::{read_full, zeros};
+use std::io;
 use utf8::Decoded;
 use vectors::numbers::holds;
 use vectors::text::bytes_at;
@@ -79,12 +80,9 @@ fn compare(text: &[u8]) -> Tally
     Tally { vectors, differ }
 }
 
-fn main() {
-    let mut text = [0u8; 131072];
-    let n = io::read_full(STDIN_FILENO, &mut text);
+fn main(rt: HostRuntime) -> io::Result<()> {
+    let mut text = zeros::<131072>();
+    let n = read_full(&mut rt.stdin(), &mut text)?;
     let t = compare(&text[..n]);
-    io::print_decimal(STDOUT_FILENO, t.vectors as u64);
-    io::write_all(STDOUT_FILENO, b" vectors, ");
-    io::print_decimal(STDOUT_FILENO, t.differ as u64);
-    io::write_all(STDOUT_FILENO, b" differ\n");
+    println!(rt; "{} vectors, {} differ", t.vectors, t.differ)
 }

@@ -1,29 +1,18 @@
--- `lsm_printout::print` meets its contract: every printout of bytes has room in `out`, so that what is written is the whole of it. Assumes
--- nothing.
-use native.Mathlib.Omega.{arith}
-use mathlib.Core.Path.{sym}
-use lib.Seq.{length-take-le}
+-- `lsm_printout::print` meets its contract: every printout of bytes has room in `text`, so that what is written is the whole of it.
+-- Assumes nothing.
+use Rattle.std.proofs.Common.{arith, sym, length-take-le}
 use Rattle.lsm_format.specs.Printout.{printout}
 use Rattle.lsm_printout.proofs.Whole.{Whole, printout_whole}
 use Rattle.lsm_printout.proofs.print.Goals as goal
 
-pub slice_bounds-out-end : goal.slice_bounds-out-end
-slice_bounds-out-end c =
-    let known : Whole (printout c.args.buf.now) c.list-n.new.1.0 c.list-n.result = printout_whole c.args.buf.now _ _ (λ i. omega (arith, c.shared_slice_known-1.given i))
-    (slice-aggregate-list c.before.before) (omega arith) c.list-n.ensures in
-    known.inside
+pub slice_bounds-text-end : goal.slice_bounds-text-end
+slice_bounds-text-end g c =
+    (printout_whole c.args.buf.now _ _ (λ i. omega (arith, c.type_inv.buf i)) c.zeros-text.ensures.len (omega arith) c.list-n.ensures).inside
 
 pub slice_bounds-write_printout-end : goal.slice_bounds-write_printout-end
-slice_bounds-write_printout-end c =
-    let known : Whole (printout c.args.buf.now) c.list-n.new.1.0 c.list-n.result = printout_whole c.args.buf.now _ _ (λ i. omega (arith, c.shared_slice_known-1.given i))
-    (slice-aggregate-list c.before.before.before) (omega arith) c.list-n.ensures in
-    sym (length-take-le _ _ known.inside)
+slice_bounds-write_printout-end g c =
+    sym (length-take-le _ _ (printout_whole c.args.buf.now _ _ (λ i. omega (arith, c.type_inv.buf i)) c.zeros-text.ensures.len (omega arith) c.list-n.ensures).inside)
 
 pub write_printout-requires : goal.write_printout-requires
-write_printout-requires c =
-    let known : Whole (printout c.args.buf.now) c.list-n.new.1.0 c.list-n.result = printout_whole c.args.buf.now _ _ (λ i. omega (arith, c.shared_slice_known-1.given i))
-    (slice-aggregate-list c.before.before.before) (omega arith) c.list-n.ensures in
-    known.text
-
-pub returns : goal.returns
-returns c = c.write_printout.ensures
+write_printout-requires g c =
+    (printout_whole c.args.buf.now _ _ (λ i. omega (arith, c.type_inv.buf i)) c.zeros-text.ensures.len (omega arith) c.list-n.ensures).text
