@@ -6,8 +6,6 @@
 ghost use Rattle.std.specs.Prelude.{◌≡◌, true, ◌<◌, ◌≤◌, length};
 
 use crate::cz::block;
-use crate::ground::ground;
-use crate::voxels::voxels;
 use buffers::{read_full, zeros};
 use std::io;
 use vectors::report::{Tally, report};
@@ -23,12 +21,12 @@ fn agrees(row: Row, bytes: &[u8]) -> bool
     ensures { result ≡ true → 3 ≤ row.count }
 {
     if row.kind == b'c' {
-        return voxels(row);
+        return voxels::voxels(row);
     }
     if row.kind == b'z' {
         return block(row, bytes);
     }
-    ground(row, bytes)
+    ground::ground(row, bytes)
 }
 
 // A line: its letter, whether the answer is as it says, and where the next begins.
@@ -55,17 +53,17 @@ fn line_at(text: &[u8], at: usize) -> Line
 
 #[derive(Clone, Copy)]
 struct Tallies {
-    ground: Tally,
+    plain: Tally,
     voxels: Tally,
     blocks: Tally,
 }
 
 fn compare(text: &[u8]) -> Tallies
-    ensures cases_in_bounds { (result.ground.cases ≤ length text.now) × (result.ground.differ ≤ result.ground.cases) }
+    ensures cases_in_bounds { (result.plain.cases ≤ length text.now) × (result.plain.differ ≤ result.plain.cases) }
     ensures cases_in_bounds_2 { (result.voxels.cases ≤ length text.now) × (result.voxels.differ ≤ result.voxels.cases) }
     ensures cases_in_bounds_3 { (result.blocks.cases ≤ length text.now) × (result.blocks.differ ≤ result.blocks.cases) }
 {
-    let mut ground = Tally::none();
+    let mut plain = Tally::none();
     let mut voxels = Tally::none();
     let mut blocks = Tally::none();
     let mut at = 0;
@@ -77,11 +75,11 @@ fn compare(text: &[u8]) -> Tallies
         } else if l.kind == b'z' {
             blocks = blocks.counted(l.agrees);
         } else {
-            ground = ground.counted(l.agrees);
+            plain = plain.counted(l.agrees);
         }
     }
     Tallies {
-        ground,
+        plain,
         voxels,
         blocks,
     }
@@ -92,7 +90,7 @@ fn main(rt: HostRuntime) -> io::Result<()> {
     let n = read_full(&mut rt.stdin(), &mut text)?;
     let t = compare(&text[..n]);
     let mut out = rt.stdout();
-    report(&mut out, b"ground ", t.ground)?;
+    report(&mut out, b"ground ", t.plain)?;
     report(&mut out, b"calibration ", t.voxels)?;
     report(&mut out, b"cz ", t.blocks)
 }

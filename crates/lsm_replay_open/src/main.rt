@@ -6,8 +6,6 @@
 
 ghost use Rattle.std.specs.Prelude.{◌≡◌, true, ◌<◌, ◌≤◌, length};
 
-use crate::lookup::lookup;
-use crate::opening::opening;
 use buffers::{read_full, zeros};
 use std::io;
 use vectors::report::{Tally, report};
@@ -21,10 +19,10 @@ fn agrees(letter: u8, said: &[usize], file: &[u8]) -> bool
     ensures { result ≡ true → 1 ≤ length said.now }
 {
     if letter == b'o' {
-        return opening(said, file);
+        return opening::opening(said, file);
     }
     if letter == b'n' {
-        return lookup(said, file);
+        return lookup::lookup(said, file);
     }
     false
 }

@@ -8,8 +8,8 @@ use Rattle.lsm_printout.proofs.list.Goals as goal
 
 pub returns-then-buf-gt-MOST : goal.returns-then-buf-gt-MOST
 returns-then-buf-gt-MOST c =
-        listed (same (printout_long _ c.if-buf-gt-MOST.true) (line too_long_line c.put_bytes.ensures))
+    listed (same (printout_long _ c.if-buf-gt-MOST.true) (line too_long_line c.put_bytes.ensures))
 
 pub returns : goal.returns
 returns c =
-            listed (same (printout_told _ c.if-buf-gt-MOST.false c.open_file-answer.ensures.answered) c.put_answer.ensures)
+    listed (same (printout_told _ c.if-buf-gt-MOST.false c.open_file-answer.ensures.answered) c.put_answer.ensures)

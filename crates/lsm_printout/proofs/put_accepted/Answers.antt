@@ -7,4 +7,4 @@ use Rattle.lsm_printout.proofs.put_accepted.Goals as goal
 pub returns : goal.returns
 unfolding accepted_lines
 returns c =
-                    text_joined _ _ (text_joined _ _ (text_joined _ _ (text_joined _ _ c.put_head-head.ensures c.put_scenes-scenes.ensures) c.put_channel_count-count.ensures) c.put_channels-channels.ensures) c.put_notes.ensures
+    text_joined _ _ (text_joined _ _ (text_joined _ _ (text_joined _ _ c.put_head-head.ensures c.put_scenes-scenes.ensures) c.put_channel_count-count.ensures) c.put_channels-channels.ensures) c.put_notes.ensures

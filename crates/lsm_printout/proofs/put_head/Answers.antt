@@ -7,4 +7,4 @@ use Rattle.lsm_printout.proofs.put_head.Goals as goal
 pub returns : goal.returns
 unfolding head_lines
 returns c =
-                    text_joined _ _ (text_joined _ _ (text_joined _ _ (text_joined _ _ (line accepted_line c.put_bytes-first.ensures) c.put_dims-second.ensures) c.put_kind-third.ensures) c.put_pixel-fourth.ensures) c.put_scene_count.ensures
+    text_joined _ _ (text_joined _ _ (text_joined _ _ (text_joined _ _ (line accepted_line c.put_bytes-first.ensures) c.put_dims-second.ensures) c.put_kind-third.ensures) c.put_pixel-fourth.ensures) c.put_scene_count.ensures

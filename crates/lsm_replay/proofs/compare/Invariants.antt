@@ -7,7 +7,7 @@ use Rattle.lsm_replay.proofs.compare.Given as goal
 
 abbrev pub invariant-loop-at : goal.invariant-loop-at
 invariant-loop-at l =
-    (l.at ≤ length l.text) × (l.ground.cases ≤ l.at) × (l.ground.differ ≤ l.ground.cases) × (l.voxels.cases ≤ l.at) × (l.voxels.differ ≤ l.voxels.cases) × (l.blocks.cases ≤ l.at) × (l.blocks.differ ≤ l.blocks.cases)
+    (l.at ≤ length l.text) × (l.plain.cases ≤ l.at) × (l.plain.differ ≤ l.plain.cases) × (l.voxels.cases ≤ l.at) × (l.voxels.differ ≤ l.voxels.cases) × (l.blocks.cases ≤ l.at) × (l.blocks.differ ≤ l.blocks.cases)
 
 abbrev pub decreases-loop-at : goal.decreases-loop-at
 decreases-loop-at l = length l.text - l.at

@@ -7,8 +7,8 @@ use Rattle.lsm_printout.proofs.channels.put_channel.Goals as goal
 
 pub returns-in-Found : goal.returns-in-Found
 returns-in-Found c =
-                rw (looked_found c.requires refl c.channel.ensures c.in-Found.is) at c.put_meta.ensures
+    rw (looked_found c.requires refl c.channel.ensures c.in-Found.is) at c.put_meta.ensures
 
 pub returns-in-Refused : goal.returns-in-Refused
 returns-in-Refused c =
-            absurd (looked_refused c.requires refl c.channel.ensures c.in-Refused.is)
+    absurd (looked_refused c.requires refl c.channel.ensures c.in-Refused.is)

@@ -8,4 +8,4 @@ use Rattle.lsm_printout.proofs.channels.put_channel_count.Goals as goal
 pub returns : goal.returns
 unfolding channels_line
 returns c =
-            line _ (then (then c.put_bytes-word.ensures c.put_spaced-count.ensures) c.put_byte.ensures)
+    line _ (then (then c.put_bytes-word.ensures c.put_spaced-count.ensures) c.put_byte.ensures)

@@ -8,4 +8,4 @@ use Rattle.lsm_printout.proofs.channels.put_meta.Goals as goal
 pub returns : goal.returns
 unfolding channel_line
 returns c =
-                line _ (then (then (then c.put_color-first.ensures c.put_byte-between.ensures) c.put_name-last.ensures) c.put_byte.ensures)
+    line _ (then (then (then c.put_color-first.ensures c.put_byte-between.ensures) c.put_name-last.ensures) c.put_byte.ensures)

@@ -8,4 +8,4 @@ use Rattle.lsm_printout.proofs.lines.put_dims.Goals as goal
 pub returns : goal.returns
 unfolding dims_line
 returns c =
-                            line _ (then (then (then (then (then (then c.put_bytes-word.ensures c.put_spaced-t.ensures) c.put_spaced-c.ensures) c.put_spaced-z.ensures) c.put_spaced-y.ensures) c.put_spaced-x.ensures) c.put_byte.ensures)
+    line _ (then (then (then (then (then (then c.put_bytes-word.ensures c.put_spaced-t.ensures) c.put_spaced-c.ensures) c.put_spaced-z.ensures) c.put_spaced-y.ensures) c.put_spaced-x.ensures) c.put_byte.ensures)

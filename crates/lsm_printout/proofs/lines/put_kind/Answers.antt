@@ -8,4 +8,4 @@ use Rattle.lsm_printout.proofs.lines.put_kind.Goals as goal
 pub returns : goal.returns
 unfolding kind_line
 returns c =
-                line _ (then (then c.put_bytes-word.ensures (rw c.kind_number.ensures at c.put_spaced-number.ensures)) c.put_byte.ensures)
+    line _ (then (then c.put_bytes-word.ensures (rw c.kind_number.ensures at c.put_spaced-number.ensures)) c.put_byte.ensures)

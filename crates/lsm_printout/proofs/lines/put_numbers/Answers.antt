@@ -17,7 +17,7 @@ loop-i-init c = (search rules, search rules, nothing _ _)
 
 pub loop-i-preserved : goal.loop-i-preserved
 loop-i-preserved c =
-            (search rules, search rules, same (sym (numbers_next _ _ c.loop-i-test.true)) (then c.loop-i.invariant.2 c.put_spaced-p.ensures))
+    (search rules, search rules, same (sym (numbers_next _ _ c.loop-i-test.true)) (then c.loop-i.invariant.2 c.put_spaced-p.ensures))
 
 pub returns : goal.returns
 returns c = same (ap numbers_text (take_all c.loop-i.i _ (search rules))) c.loop-i.invariant.2

@@ -9,13 +9,13 @@ use Rattle.lsm_printout.proofs.lines.put_refused.Goals as goal
 
 pub slice_bounds-numbers-end : goal.slice_bounds-numbers-end
 slice_bounds-numbers-end c =
-        (row_front c.numbers-row.ensures).room
+    (row_front c.numbers-row.ensures).room
 
 pub slice_bounds-put_numbers-end : goal.slice_bounds-put_numbers-end
 slice_bounds-put_numbers-end c =
-        (row_front c.numbers-row.ensures).count
+    (row_front c.numbers-row.ensures).count
 
 pub returns : goal.returns
 unfolding refused_line
 returns c =
-                line _ (then (then c.put_bytes-word.ensures (same (ap numbers_text (row_front c.numbers-row.ensures).first) c.put_numbers-said.ensures)) c.put_byte.ensures)
+    line _ (then (then c.put_bytes-word.ensures (same (ap numbers_text (row_front c.numbers-row.ensures).first) c.put_numbers-said.ensures)) c.put_byte.ensures)

@@ -10,8 +10,8 @@ use Rattle.lsm_printout.proofs.lines.put_scene.Goals as goal
 
 pub returns-then-scenes-eq1 : goal.returns-then-scenes-eq1
 returns-then-scenes-eq1 c =
-        line _ (same (ap (λ (l : List ℕ). l ++ 10 ∷ []) (sym (scene_one _ _ c.if-scenes-eq1.true))) c.put_bytes.ensures)
+    line _ (same (ap (λ (l : List ℕ). l ++ 10 ∷ []) (sym (scene_one _ _ c.if-scenes-eq1.true))) c.put_bytes.ensures)
 
 pub returns : goal.returns
 returns c =
-                line _ (same (ap (λ (l : List ℕ). l ++ 10 ∷ []) (sym (scene_several _ _ c.if-scenes-eq1.false))) (then (then c.put_bytes-word.ensures c.put_decimal-number.ensures) c.put_byte.ensures))
+    line _ (same (ap (λ (l : List ℕ). l ++ 10 ∷ []) (sym (scene_several _ _ c.if-scenes-eq1.false))) (then (then c.put_bytes-word.ensures c.put_decimal-number.ensures) c.put_byte.ensures))

@@ -4,4 +4,4 @@ use Rattle.lsm_printout.proofs.sizes.put_note.Goals as goal
 
 pub returns : goal.returns
 returns c =
-            then (then c.put_bytes-said.ensures c.put_figure-figure.ensures) c.put_byte.ensures
+    then (then c.put_bytes-said.ensures c.put_figure-figure.ensures) c.put_byte.ensures

@@ -8,4 +8,4 @@ use Rattle.lsm_printout.proofs.sizes.put_pixel.Goals as goal
 pub returns : goal.returns
 unfolding pixel_line
 returns c =
-            line _ (then (then c.put_bytes-word.ensures c.put_sizes-sizes.ensures) c.put_byte.ensures)
+    line _ (then (then c.put_bytes-word.ensures c.put_sizes-sizes.ensures) c.put_byte.ensures)

@@ -8,4 +8,4 @@ returns-in-Uncalibrated c = rw c.in-Uncalibrated.is c.put_bytes.ensures
 
 pub returns-in-Sized : goal.returns-in-Sized
 returns-in-Sized c =
-                        rw c.in-Sized.is (then (then (then (then c.put_size-first.ensures c.put_byte-between.ensures) c.put_size-second.ensures) c.put_byte-last.ensures) c.put_step.ensures)
+    rw c.in-Sized.is (then (then (then (then c.put_size-first.ensures c.put_byte-between.ensures) c.put_size-second.ensures) c.put_byte-last.ensures) c.put_step.ensures)

@@ -15,7 +15,7 @@ loop-i-init c = (search rules, search rules, nothing _ _)
 
 pub loop-i-preserved : goal.loop-i-preserved
 loop-i-preserved c =
-            (search rules, search rules, same (sym (take_next _ _ c.loop-i-test.true)) (then c.loop-i.invariant.2 c.put_byte-p.ensures))
+    (search rules, search rules, same (sym (take_next _ _ c.loop-i-test.true)) (then c.loop-i.invariant.2 c.put_byte-p.ensures))
 
 pub returns : goal.returns
 returns c = same (take_all c.loop-i.i _ (search rules)) c.loop-i.invariant.2

@@ -21,7 +21,7 @@ overflow_cast-bytes c = omega (arith, c.shared_slice_known-in-loop-i-1.given c.l
 
 pub loop-i-preserved : goal.loop-i-preserved
 loop-i-preserved c =
-            (search rules, search rules, same (sym (hex_next _ _ c.loop-i-test.true)) (then c.loop-i.invariant.2 c.put_hex-p.ensures))
+    (search rules, search rules, same (sym (hex_next _ _ c.loop-i-test.true)) (then c.loop-i.invariant.2 c.put_hex-p.ensures))
 
 pub returns : goal.returns
 returns c = same (ap hex_bytes (take_all c.loop-i.i _ (search rules))) c.loop-i.invariant.2

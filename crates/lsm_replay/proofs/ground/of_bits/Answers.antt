@@ -18,12 +18,12 @@ overflow_cast-result-else-bits-lt2147483648-2 c = rw (to_z_pos w64 c.args.bits (
 
 pub returns-then-bits-lt2147483648 : goal.returns-then-bits-lt2147483648
 returns-then-bits-lt2147483648 c = record {
-      value = λ h. to_z_pos w32 c.args.bits (omega arith);
-      value_2 = λ h. absurd (omega arith);
-    }
+  value = λ h. to_z_pos w32 c.args.bits (omega arith);
+  value_2 = λ h. absurd (omega arith);
+}
 
 pub returns-else-bits-lt2147483648 : goal.returns-else-bits-lt2147483648
 returns-else-bits-lt2147483648 c = record {
-      value = λ h. absurd (omega arith);
-      value_2 = λ h. rw (to_z_pos w64 c.args.bits (omega arith), less_than_all c.args.bits (omega arith), to_z-of_z w64 (negsuc (2 ^ 32 - suc c.args.bits)) (record { sfits = omega arith }), to_z-of_z w32 (negsuc (2 ^ 32 - suc c.args.bits)) (record { sfits = omega arith })) (ap negsuc (omega arith));
-    }
+  value = λ h. absurd (omega arith);
+  value_2 = λ h. rw (to_z_pos w64 c.args.bits (omega arith), less_than_all c.args.bits (omega arith), to_z-of_z w64 (negsuc (2 ^ 32 - suc c.args.bits)) (record { sfits = omega arith }), to_z-of_z w32 (negsuc (2 ^ 32 - suc c.args.bits)) (record { sfits = omega arith })) (ap negsuc (omega arith));
+}
