@@ -66,7 +66,7 @@ def functions(crate):
     return public, private
 
 
-crates = [line.split(':')[0] for line in open('crates.txt') if line.strip() and not line.startswith('#')]
+crates = [line.split(':')[0].split()[0] for line in open('crates.txt') if line.strip() and not line.startswith('#')]
 spec = {os.path.basename(p)[:-5]: tops(open(p).read()) for p in glob.glob('crates/lsm_format/specs/*.antt')}
 everywhere = tops(text('crates/*/specs/*.antt')) | tops(text('crates/*/proofs/**/*.antt'))
 of_records = parsed(text('crates/*/specs/*.antt'))[1]

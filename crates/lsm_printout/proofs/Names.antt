@@ -1,6 +1,6 @@
 -- "An array [0; 3072] holds a decoded name at its worst expansion, three bytes for each of 1,024": so every channel is found, and
 -- what the answer and the lent memory hold is the channel. Assumes nothing.
-use Prim.Native.Nat.{ℕ, zero, suc, ◌+◌, ◌-◌, ◌≤◌, ◌<◌}
+use Prim.Native.Nat.{ℕ, zero, suc, ◌+◌, ◌≤◌, ◌<◌}
 use mathlib.Core.Path.{◌≡◌, refl, ap, ◌∙◌}
 use mathlib.Core.Bool.{Bool, true, false}
 use mathlib.Core.Option.{Option, none, some}

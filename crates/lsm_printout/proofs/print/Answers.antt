@@ -1,8 +1,7 @@
 -- `lsm_printout::print` meets its contract: every printout of bytes has room in `text`, so that what is written is the whole of it.
 -- Assumes nothing.
 use Rattle.std.proofs.Common.{arith, sym, length-take-le}
-use Rattle.lsm_format.specs.Printout.{printout}
-use Rattle.lsm_printout.proofs.Whole.{Whole, printout_whole}
+use Rattle.lsm_printout.proofs.Whole.{printout_whole}
 use Rattle.lsm_printout.proofs.print.Goals as goal
 
 pub slice_bounds-text-end : goal.slice_bounds-text-end

@@ -1,11 +1,6 @@
 -- `lsm_printout::channels::put_channels` meets its contract. The loop's invariant: the lines of the channels before `c` are put. A turn
 -- puts one line more (`each_next`); the measure is what is left of the channels. Assumes nothing.
-use Prim.Native.Nat.{◌≤◌, ◌-◌}
-use mathlib.Core.Path.{◌≡◌, sym}
-use lib.ListN.{length}
-use Rattle.lsm_format.specs.Printout.{text, each, channel_line, channels_of}
-use Rattle.lsm_description.specs.Code.{description_of}
-use Rattle.lsm_printout.specs.Put.{Put}
+use mathlib.Core.Path.{sym}
 use Rattle.lsm_printout.proofs.Puts.{nothing, same}
 use Rattle.lsm_printout.proofs.TextLines.{each_none, each_next, each_done}
 use borrow.Author.Rules.{rules}

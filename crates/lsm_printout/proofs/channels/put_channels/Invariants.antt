@@ -1,11 +1,9 @@
 use Prim.Native.Nat.{◌≤◌, ◌-◌}
-use mathlib.Core.Path.{◌≡◌, sym}
+use mathlib.Core.Path.{◌≡◌}
 use lib.ListN.{length}
 use Rattle.lsm_format.specs.Printout.{text, each, channel_line, channels_of}
 use Rattle.lsm_description.specs.Code.{description_of}
 use Rattle.lsm_printout.specs.Put.{Put}
-use Rattle.lsm_printout.proofs.Puts.{nothing, same}
-use Rattle.lsm_printout.proofs.TextLines.{each_none, each_next, each_done}
 use Rattle.lsm_printout.proofs.channels.put_channels.Given as goal
 
 abbrev pub invariant-loop-c : goal.invariant-loop-c

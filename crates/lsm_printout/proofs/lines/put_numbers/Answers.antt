@@ -1,11 +1,8 @@
 -- `lsm_printout::lines::put_numbers` meets its contract. The loop's invariant: the text of the numbers before `i` is put. A turn puts one
 -- number more (`numbers_next`); the measure is what is left of the row. Assumes nothing.
-use Prim.Native.Nat.{◌≤◌, ◌-◌}
-use mathlib.Core.Path.{◌≡◌, sym, ap}
-use lib.ListN.{length, take}
+use mathlib.Core.Path.{sym, ap}
 use lib.Seq.{take_all}
 use Rattle.lsm_format.specs.Printout.{numbers_text}
-use Rattle.lsm_printout.specs.Put.{Put}
 use Rattle.lsm_printout.proofs.Puts.{nothing, then, same}
 use Rattle.lsm_printout.proofs.Rows.{numbers_next}
 use borrow.Author.Rules.{rules}

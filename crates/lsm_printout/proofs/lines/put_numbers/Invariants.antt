@@ -1,11 +1,8 @@
 use Prim.Native.Nat.{◌≤◌, ◌-◌}
-use mathlib.Core.Path.{◌≡◌, sym, ap}
+use mathlib.Core.Path.{◌≡◌}
 use lib.ListN.{length, take}
-use lib.Seq.{take_all}
 use Rattle.lsm_format.specs.Printout.{numbers_text}
 use Rattle.lsm_printout.specs.Put.{Put}
-use Rattle.lsm_printout.proofs.Puts.{nothing, then, same}
-use Rattle.lsm_printout.proofs.Rows.{numbers_next}
 use Rattle.lsm_printout.proofs.lines.put_numbers.Given as goal
 
 abbrev pub invariant-loop-i : goal.invariant-loop-i

@@ -1,10 +1,6 @@
 -- `lsm_printout::lines::put_scenes` meets its contract. The loop's invariant: the lines of the scenes before `scene` are put. A turn puts
 -- one line more (`each_next`); the measure is what is left of the scenes. Assumes nothing.
-use Prim.Native.Nat.{◌≤◌, ◌-◌}
-use mathlib.Core.Path.{◌≡◌, sym}
-use lib.ListN.{length}
-use Rattle.lsm_format.specs.Printout.{text, each, scene_line}
-use Rattle.lsm_printout.specs.Put.{Put}
+use mathlib.Core.Path.{sym}
 use Rattle.lsm_printout.proofs.Puts.{nothing, same}
 use Rattle.lsm_printout.proofs.TextLines.{each_none, each_next, each_done}
 use borrow.Author.Rules.{rules}

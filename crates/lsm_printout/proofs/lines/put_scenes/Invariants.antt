@@ -1,10 +1,8 @@
 use Prim.Native.Nat.{◌≤◌, ◌-◌}
-use mathlib.Core.Path.{◌≡◌, sym}
+use mathlib.Core.Path.{◌≡◌}
 use lib.ListN.{length}
 use Rattle.lsm_format.specs.Printout.{text, each, scene_line}
 use Rattle.lsm_printout.specs.Put.{Put}
-use Rattle.lsm_printout.proofs.Puts.{nothing, same}
-use Rattle.lsm_printout.proofs.TextLines.{each_none, each_next, each_done}
 use Rattle.lsm_printout.proofs.lines.put_scenes.Given as goal
 
 abbrev pub invariant-loop-scene : goal.invariant-loop-scene

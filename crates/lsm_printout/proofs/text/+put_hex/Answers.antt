@@ -1,5 +1,4 @@
 use mathlib.Core.Path.{sym}
-use borrow.Author.Rules.{rules}
 use Rattle.lsm_printout.proofs.Puts.{nothing, then, same}
 use Rattle.lsm_printout.proofs.Numbers.{hex_none, hex_more}
 use Rattle.lsm_printout.proofs.text.+put_hex.Goals as goal

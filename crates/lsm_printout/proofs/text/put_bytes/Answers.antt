@@ -1,10 +1,7 @@
 -- `lsm_printout::text::put_bytes` meets its contract. The loop's invariant: the bytes before `i` are put. The measure is what is left of
 -- them. Assumes nothing.
-use Prim.Native.Nat.{◌≤◌, ◌-◌}
-use mathlib.Core.Path.{◌≡◌, sym}
-use lib.ListN.{length, take}
+use mathlib.Core.Path.{sym}
 use lib.Seq.{take_all}
-use Rattle.lsm_printout.specs.Put.{Put}
 use Rattle.lsm_printout.proofs.Puts.{nothing, then, same}
 use Rattle.lsm_printout.proofs.Numbers.{take_next}
 use borrow.Author.Rules.{rules}

@@ -1,10 +1,7 @@
 use Prim.Native.Nat.{◌≤◌, ◌-◌}
-use mathlib.Core.Path.{◌≡◌, sym}
+use mathlib.Core.Path.{◌≡◌}
 use lib.ListN.{length, take}
-use lib.Seq.{take_all}
 use Rattle.lsm_printout.specs.Put.{Put}
-use Rattle.lsm_printout.proofs.Puts.{nothing, then, same}
-use Rattle.lsm_printout.proofs.Numbers.{take_next}
 use Rattle.lsm_printout.proofs.text.put_bytes.Given as goal
 
 abbrev pub invariant-loop-i : goal.invariant-loop-i

@@ -1,12 +1,9 @@
 -- `lsm_printout::text::put_hex_bytes` meets its contract. The loop's invariant: the bytes before `i` are put, two digits each. The measure
 -- is what is left of them. Assumes nothing.
-use Prim.Native.Nat.{◌≤◌, ◌-◌}
-use mathlib.Core.Path.{◌≡◌, sym, ap}
+use mathlib.Core.Path.{sym, ap}
 use native.Mathlib.Omega.{arith}
-use lib.ListN.{length, take}
 use lib.Seq.{take_all}
 use Rattle.lsm_format.specs.Printout.{hex_bytes}
-use Rattle.lsm_printout.specs.Put.{Put}
 use Rattle.lsm_printout.proofs.Puts.{nothing, then, same}
 use Rattle.lsm_printout.proofs.Numbers.{hex_next}
 use borrow.Author.Rules.{rules}

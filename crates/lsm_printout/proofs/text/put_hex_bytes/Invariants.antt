@@ -1,12 +1,8 @@
 use Prim.Native.Nat.{◌≤◌, ◌-◌}
-use mathlib.Core.Path.{◌≡◌, sym, ap}
-use native.Mathlib.Omega.{arith}
+use mathlib.Core.Path.{◌≡◌}
 use lib.ListN.{length, take}
-use lib.Seq.{take_all}
 use Rattle.lsm_format.specs.Printout.{hex_bytes}
 use Rattle.lsm_printout.specs.Put.{Put}
-use Rattle.lsm_printout.proofs.Puts.{nothing, then, same}
-use Rattle.lsm_printout.proofs.Numbers.{hex_next}
 use Rattle.lsm_printout.proofs.text.put_hex_bytes.Given as goal
 
 abbrev pub invariant-loop-i : goal.invariant-loop-i

@@ -1,18 +1,15 @@
 -- `vectors::numbers::number_at` meets its contract: the value and the place so far come to the number. Assumes nothing.
-use Prim.Native.Nat.{◌-◌, ◌≤◌}
 use native.Mathlib.Omega.{arith}
-use mathlib.Core.Path.{◌≡◌, ◌∙◌}
-use lib.ListN.{length, drop}
-use Rattle.vectors.specs.Numbers.{number, number_at}
+use mathlib.Core.Path.{◌∙◌}
 use Rattle.vectors.proofs.Digits.{number_more, number_stops, number_full, number_ends, number_from, number_past, parts}
 use Rattle.vectors.proofs.numbers.number_at.Goals as goal
 
 pub returns-then-text-from : goal.returns-then-text-from
 returns-then-text-from c = record {
-      value_value = parts (number_past _ _ (omega arith));
-      inside = omega arith;
-      onward = λ h. absurd (omega arith);
-    }
+  value_value = parts (number_past _ _ (omega arith));
+  inside = omega arith;
+  onward = λ h. absurd (omega arith);
+}
 
 pub loop-at-init : goal.loop-at-init
 loop-at-init c = (omega arith, omega arith, number_from _ _ (omega arith))
@@ -39,7 +36,7 @@ loop-at-preserved c =
 
 pub returns : goal.returns
 returns c = record {
-      value_value = parts (c.loop-at.invariant.2 ∙ number_ends _ _ _ (omega arith));
-      inside = omega arith;
-      onward = λ h. omega arith;
-    }
+  value_value = parts (c.loop-at.invariant.2 ∙ number_ends _ _ _ (omega arith));
+  inside = omega arith;
+  onward = λ h. omega arith;
+}

@@ -1,9 +1,7 @@
 use Prim.Native.Nat.{◌-◌, ◌≤◌}
-use native.Mathlib.Omega.{arith}
-use mathlib.Core.Path.{◌≡◌, ◌∙◌}
+use mathlib.Core.Path.{◌≡◌}
 use lib.ListN.{length, drop}
 use Rattle.vectors.specs.Numbers.{number, number_at}
-use Rattle.vectors.proofs.Digits.{number_more, number_stops, number_full, number_ends, number_from, number_past, parts}
 use Rattle.vectors.proofs.numbers.number_at.Given as goal
 
 abbrev pub invariant-loop-at : goal.invariant-loop-at

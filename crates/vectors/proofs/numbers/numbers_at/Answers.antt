@@ -1,13 +1,9 @@
 -- `vectors::numbers::numbers_at` meets its contract: the numbers so far, then those from the place on. Assumes nothing.
-use Prim.Native.Nat.{◌-◌, ◌≤◌}
 use native.Mathlib.Omega.{arith}
 use borrow.Author.Tests.{not-true, not-false}
 use mathlib.Core.Path.{sym, ◌∙◌}
-use lib.ListN.{length}
 use Rattle.vectors.proofs.Prefixes.{prefix_len_of_le}
-use Rattle.vectors.specs.Numbers as Numbers
-use Rattle.vectors.specs.Numbers.{numbers_at}
-use Rattle.vectors.proofs.Digits.{numbers_more, numbers_stop, numbers_bare, numbers_full, numbers_from, numbers_past, Sofar, nothing_yet, one_more_lem, read_all, read_none}
+use Rattle.vectors.proofs.Digits.{numbers_more, numbers_stop, numbers_bare, numbers_full, numbers_from, numbers_past, nothing_yet, one_more_lem, read_all, read_none}
 use borrow.Author.Rules.{rules}
 use Rattle.vectors.proofs.numbers.numbers_at.Goals as goal
 

@@ -1,11 +1,8 @@
 use Prim.Native.Nat.{◌-◌, ◌≤◌}
-use native.Mathlib.Omega.{arith}
-use borrow.Author.Tests.{not-true, not-false}
-use mathlib.Core.Path.{sym, ◌∙◌}
 use lib.ListN.{length}
 use Rattle.vectors.specs.Numbers as Numbers
 use Rattle.vectors.specs.Numbers.{numbers_at}
-use Rattle.vectors.proofs.Digits.{numbers_more, numbers_stop, numbers_bare, numbers_full, numbers_from, numbers_past, Sofar, nothing_yet, one_more_lem, read_all, read_none}
+use Rattle.vectors.proofs.Digits.{Sofar}
 use Rattle.vectors.proofs.numbers.numbers_at.Given as goal
 
 abbrev pub invariant-loop-n : goal.invariant-loop-n

@@ -1,9 +1,6 @@
 -- `vectors::same::kept_bytes` meets its contract: the list is as it was if it is from i on. Assumes nothing.
-use Prim.Native.Nat.{◌-◌}
 use native.Mathlib.Omega.{arith}
-use lib.ListN.{length}
-use Rattle.vectors.specs.Same.{lent_byte}
-use Rattle.vectors.proofs.Compared.{Kept, kept_first, kept_more, kept_not, kept_all}
+use Rattle.vectors.proofs.Compared.{kept_first, kept_more, kept_not, kept_all}
 use Rattle.vectors.proofs.same.kept_bytes.Goals as goal
 
 pub loop-i-init : goal.loop-i-init

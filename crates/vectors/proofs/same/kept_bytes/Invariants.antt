@@ -1,8 +1,7 @@
 use Prim.Native.Nat.{◌-◌}
-use native.Mathlib.Omega.{arith}
 use lib.ListN.{length}
 use Rattle.vectors.specs.Same.{lent_byte}
-use Rattle.vectors.proofs.Compared.{Kept, kept_first, kept_more, kept_not, kept_all}
+use Rattle.vectors.proofs.Compared.{Kept}
 use Rattle.vectors.proofs.same.kept_bytes.Given as goal
 
 abbrev pub invariant-loop-i : goal.invariant-loop-i

@@ -1,8 +1,6 @@
 -- `vectors::same::kept_words` meets its contract: every word is v if it is so from i on. Assumes nothing.
-use Prim.Native.Nat.{◌-◌}
 use native.Mathlib.Omega.{arith}
-use lib.ListN.{length}
-use Rattle.vectors.proofs.Compared.{Kept, kept_first, kept_more, kept_not, kept_all}
+use Rattle.vectors.proofs.Compared.{kept_first, kept_more, kept_not, kept_all}
 use Rattle.vectors.proofs.same.kept_words.Goals as goal
 
 pub loop-i-init : goal.loop-i-init

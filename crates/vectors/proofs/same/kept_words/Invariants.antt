@@ -1,7 +1,6 @@
 use Prim.Native.Nat.{◌-◌}
-use native.Mathlib.Omega.{arith}
 use lib.ListN.{length}
-use Rattle.vectors.proofs.Compared.{Kept, kept_first, kept_more, kept_not, kept_all}
+use Rattle.vectors.proofs.Compared.{Kept}
 use Rattle.vectors.proofs.same.kept_words.Given as goal
 
 abbrev pub invariant-loop-i : goal.invariant-loop-i

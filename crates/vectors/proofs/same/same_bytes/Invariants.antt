@@ -1,8 +1,6 @@
 use Prim.Native.Nat.{◌-◌}
-use native.Mathlib.Omega.{arith}
-use mathlib.Core.Path.{sym}
 use lib.ListN.{length}
-use Rattle.vectors.proofs.Compared.{same_long, Same, same_first, same_more, same_not, same_all}
+use Rattle.vectors.proofs.Compared.{Same}
 use Rattle.vectors.proofs.same.same_bytes.Given as goal
 
 abbrev pub invariant-loop-i : goal.invariant-loop-i

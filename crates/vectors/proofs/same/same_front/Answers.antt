@@ -7,9 +7,9 @@ use Rattle.vectors.proofs.same.same_front.Goals as goal
 
 pub returns-then-b-n : goal.returns-then-b-n
 returns-then-b-n c = record {
-      value = sym (front_short _ _ _ (omega arith));
-      short = λ e. absurd (false≢true e);
-    }
+  value = sym (front_short _ _ _ (omega arith));
+  short = λ e. absurd (false≢true e);
+}
 
 pub slice_bounds-same_words-end : goal.slice_bounds-same_words-end
 slice_bounds-same_words-end c = taken _ _ (omega arith)

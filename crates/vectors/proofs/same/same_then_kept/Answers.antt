@@ -9,9 +9,9 @@ use Rattle.vectors.proofs.same.same_then_kept.Goals as goal
 
 pub returns-then-bytes-n : goal.returns-then-bytes-n
 returns-then-bytes-n c = record {
-      value = sym (then_not _ _ _ _ (front_short _ _ _ (omega arith)));
-      short = λ e. absurd (false≢true e);
-    }
+  value = sym (then_not _ _ _ _ (front_short _ _ _ (omega arith)));
+  short = λ e. absurd (false≢true e);
+}
 
 pub slice_bounds-same_bytes-end : goal.slice_bounds-same_bytes-end
 slice_bounds-same_bytes-end c = taken _ _ (omega arith)

@@ -1,9 +1,7 @@
 -- `vectors::same::same_words` meets its contract: the lists are the same if they are from i on. Assumes nothing.
-use Prim.Native.Nat.{◌-◌}
 use native.Mathlib.Omega.{arith}
 use mathlib.Core.Path.{sym}
-use lib.ListN.{length}
-use Rattle.vectors.proofs.Compared.{same_long, Same, same_first, same_more, same_not, same_all}
+use Rattle.vectors.proofs.Compared.{same_long, same_first, same_more, same_not, same_all}
 use Rattle.vectors.proofs.same.same_words.Goals as goal
 
 pub returns-then-a-b : goal.returns-then-a-b

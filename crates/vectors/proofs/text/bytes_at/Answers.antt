@@ -1,11 +1,7 @@
 -- `vectors::text::bytes_at` meets its contract: the bytes so far, then those from the place on. Assumes nothing.
-use Prim.Native.Nat.{◌-◌, ◌≤◌}
 use native.Mathlib.Omega.{arith}
-use lib.ListN.{length}
 use Rattle.vectors.proofs.Prefixes.{prefix_len_of_le}
-use Rattle.vectors.proofs.Digits.{Sofar, nothing_yet, read_all, read_none}
-use Rattle.vectors.specs.Lines as Lines
-use Rattle.vectors.specs.Lines.{bytes_at}
+use Rattle.vectors.proofs.Digits.{nothing_yet, read_all, read_none}
 use Rattle.vectors.proofs.Lines.{bytes_more, bytes_nothing, bytes_over, bytes_full, bytes_from_lem, bytes_past, run_more}
 use borrow.Author.Rules.{rules}
 use Rattle.vectors.proofs.text.bytes_at.Goals as goal

@@ -1,10 +1,8 @@
 use Prim.Native.Nat.{◌-◌, ◌≤◌}
-use native.Mathlib.Omega.{arith}
 use lib.ListN.{length}
-use Rattle.vectors.proofs.Digits.{Sofar, nothing_yet, read_all, read_none}
+use Rattle.vectors.proofs.Digits.{Sofar}
 use Rattle.vectors.specs.Lines as Lines
 use Rattle.vectors.specs.Lines.{bytes_at}
-use Rattle.vectors.proofs.Lines.{bytes_more, bytes_nothing, bytes_over, bytes_full, bytes_from_lem, bytes_past, run_more}
 use Rattle.vectors.proofs.text.bytes_at.Given as goal
 
 abbrev pub invariant-loop-n : goal.invariant-loop-n

@@ -1,7 +1,6 @@
 -- `vectors::text::fill` meets its contract: the part up to i is filled. Assumes nothing.
-use Prim.Native.Nat.{◌-◌, ◌≤◌}
 use native.Mathlib.Omega.{arith}
-use Rattle.vectors.proofs.Lines.{Filled, fill_first, fill_more, fill_done}
+use Rattle.vectors.proofs.Lines.{fill_first, fill_more, fill_done}
 use Rattle.vectors.proofs.text.fill.Goals as goal
 
 pub loop-i-init : goal.loop-i-init
@@ -12,6 +11,6 @@ loop-i-preserved c = (omega arith, fill_more c.loop-i.invariant.1 (omega arith))
 
 pub returns : goal.returns
 returns c = record {
-      bytes_after = (fill_done c.loop-i.invariant.1 (omega arith)).0;
-      bytes_unchanged = (fill_done c.loop-i.invariant.1 (omega arith)).1;
-    }
+  bytes_after = (fill_done c.loop-i.invariant.1 (omega arith)).0;
+  bytes_unchanged = (fill_done c.loop-i.invariant.1 (omega arith)).1;
+}

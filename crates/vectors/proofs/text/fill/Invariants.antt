@@ -1,6 +1,5 @@
 use Prim.Native.Nat.{◌-◌, ◌≤◌}
-use native.Mathlib.Omega.{arith}
-use Rattle.vectors.proofs.Lines.{Filled, fill_first, fill_more, fill_done}
+use Rattle.vectors.proofs.Lines.{Filled}
 use Rattle.vectors.proofs.text.fill.Given as goal
 
 abbrev pub invariant-loop-i : goal.invariant-loop-i

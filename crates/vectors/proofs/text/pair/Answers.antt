@@ -7,30 +7,30 @@ use Rattle.vectors.proofs.text.pair.Goals as goal
 
 pub returns-then-text-lt2 : goal.returns-then-text-lt2
 returns-then-text-lt2 c = record {
-      value = pair_past _ _ (omega arith);
-      inside = omega arith;
-    }
+  value = pair_past _ _ (omega arith);
+  inside = omega arith;
+}
 
 pub returns-then-text-at : goal.returns-then-text-at
 returns-then-text-at c = record {
-      value = pair_past _ _ (omega arith);
-      inside = omega arith;
-    }
+  value = pair_past _ _ (omega arith);
+  inside = omega arith;
+}
 
 pub returns-then-high-eq16 : goal.returns-then-high-eq16
 returns-then-high-eq16 c = record {
-      value = pair_high _ _ _ _ c.digit-high.ensures.value c.digit-low.ensures.value (omega arith);
-      inside = omega arith;
-    }
+  value = pair_high _ _ _ _ c.digit-high.ensures.value c.digit-low.ensures.value (omega arith);
+  inside = omega arith;
+}
 
 pub returns-then-low-eq16 : goal.returns-then-low-eq16
 returns-then-low-eq16 c = record {
-      value = pair_low _ _ _ _ c.digit-high.ensures.value c.digit-low.ensures.value (omega arith);
-      inside = omega arith;
-    }
+  value = pair_low _ _ _ _ c.digit-high.ensures.value c.digit-low.ensures.value (omega arith);
+  inside = omega arith;
+}
 
 pub returns : goal.returns
 returns c = record {
-      value = pair_is _ _ _ _ c.digit-high.ensures.value c.digit-low.ensures.value (omega arith) (omega arith);
-      inside = omega arith;
-    }
+  value = pair_is _ _ _ _ c.digit-high.ensures.value c.digit-low.ensures.value (omega arith) (omega arith);
+  inside = omega arith;
+}

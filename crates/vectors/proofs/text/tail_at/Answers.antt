@@ -16,7 +16,7 @@ returns-then-holds c =
 
 pub returns : goal.returns
 returns c = record {
-      reads = read_none _ (tail_none _ _ _ (sym c.holds.ensures.value ∙ c.if-holds.false));
-      short = search rules;
-      inside = search rules;
-    }
+  reads = read_none _ (tail_none _ _ _ (sym c.holds.ensures.value ∙ c.if-holds.false));
+  short = search rules;
+  inside = search rules;
+}
