@@ -37,6 +37,7 @@ fn block_length(declared: usize, size: i32) -> usize
 }
 
 // The block's length, once the block is known to be one.
+#[tactic(auto, unfolding(lsm_format::specs::CzInfo::header, lsm_format::specs::Answer::bind))]
 pub(crate) fn read_header(buf: &[u8], block: usize, declared: usize, e: Endian) -> LengthAnswer
     ensures { length_of result ≡ header (order_of e) buf.now block declared }
 {

@@ -214,6 +214,7 @@ fn scalar_value(t: Field, v: u32) -> Value
 }
 
 // What a scalar states, where it has no more bits than its field.
+#[tactic(auto, unfolding(lsm_format::specs::Answer::bind))]
 fn field_value(t: Field, v: u32) -> EntryAnswer
     ensures { (o : Order) (f : List ℕ) (d : Rule.Directory) → step_of o f result d ≡ put_field (field_meant t) v d }
 {
@@ -227,6 +228,7 @@ fn field_value(t: Field, v: u32) -> EntryAnswer
 }
 
 // The CZ entry: its values never fit into four bytes, so it holds an offset.
+#[tactic(auto, unfolding(lsm_format::specs::Answer::bind))]
 fn cz_value(buf: &[u8], ty: u16, count: u32, off: usize, e: Endian) -> EntryAnswer
     ensures { (d : Rule.Directory) → step_of (order_of e) buf.now result d ≡ entry_by cz_lsm_info (order_of e) buf.now ty count off d }
 {
@@ -334,6 +336,7 @@ fn same_geometry(a: Directory, b: Directory) -> bool
 }
 
 // What a full page agrees on with the first: its geometry, then its strip count.
+#[tactic(auto, unfolding(lsm_format::specs::Answer::bind))]
 fn page_check(geometry: bool, strips: bool) -> Check
     ensures { check_of result ≡ bind (need unsupported geometry) (λ _. need decode strips) }
 {

@@ -76,6 +76,7 @@ impl Dims5 {
     }
 
     // The bytes of one picture, refused also above the limit.
+    #[tactic(auto, unfolding(crate::specs::Sizes::picture_size, crate::specs::Answer::bind))]
     pub fn checked_plane_bytes(self, dtype: DType) -> PlaneBytes
         ensures { bytes_of result ≡ picture_size self.x self.y (kind_of dtype) }
     {

@@ -78,6 +78,7 @@ pub enum Place {
 }
 
 // Where an entry's values stand: in the entry where they fit into four bytes, otherwise at the offset that it holds.
+#[tactic(auto, unfolding(lsm_format::specs::Directory::value_place, lsm_format::specs::Answer::bind))]
 fn value_place(buf: &[u8], size: usize, count: u32, off: usize, e: Endian) -> Place
     requires { size ≤ 8 }
     ensures { place_of result ≡ value_place (order_of e) buf.now size count off }
@@ -162,6 +163,7 @@ fn width_bytes(width: Width) -> usize
 }
 
 // The strip array at a place. Its values are not read one by one: all of them are in the file where the last byte is.
+#[tactic(auto, unfolding(crate::specs::Values::array_at, lsm_format::specs::Answer::bind))]
 fn array_at(buf: &[u8], ty: u16, count: u32, place: usize, e: Endian) -> ArrayAnswer
     ensures { array_of (order_of e) buf.now result ≡ array_at (order_of e) buf.now ty count place }
 {

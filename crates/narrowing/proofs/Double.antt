@@ -101,25 +101,16 @@ pattern_low (suc x) t p l h =
     (sym (min-eq_left (few (2 ^ 52 + t) (29 + (896 - x)) (omega arith) (omega arith))))
 
 -- from the smallest normal f32 on: the field beside what is kept
-module _ (x t q : ℕ) (X : 897 ≤ x) (Y : x < 2047) (h : t < 2 ^ 52) (e : q ≡ closest (t + 2 ^ 52) (2 ^ 29)) where
-  abbrev assembled : ℕ
-  assembled = (x - 897) * 2 ^ 23 % 2 ^ 64 + q
+pattern_high : (x t : ℕ) → 897 ≤ x → x < 2047 → pattern x t ≡ min ((x - 897) * 2 ^ 23 + closest (t + 2 ^ 52) (2 ^ 29)) 0x7f80_0000
+pattern_high zero t l k = absurd (omega arith)
+pattern_high (suc x) t l k =
+    let d : 29 + (896 - x) ≡ 29 = omega arith in
+    let z : suc x - 897 ≡ x - 896 = omega arith in
+    rw (d, z, add_comm t (2 ^ 52))
 
-  high : min assembled 0x7f80_0000 ≡ pattern x t
-  high = go x X Y
-    where
-      go : (x : ℕ) → 897 ≤ x → x < 2047 → min ((x - 897) * 2 ^ 23 % 2 ^ 64 + q) 0x7f80_0000 ≡ pattern x t
-      go zero l k = absurd (omega arith)
-      go (suc x) l k =
-          let d : 29 + (896 - x) ≡ 29 = omega arith in
-          let z : (suc x - 897) * 2 ^ 23 % 2 ^ 64 ≡ (x - 896) * 2 ^ 23 = omega arith in
-          rw (d, e, z, add_comm t (2 ^ 52))
-
-  pub pattern_high : assembled ≤ 0x7f80_0000 → assembled ≡ pattern x t
-  pattern_high l = sym (min-eq_left l) ∙ high
-
-  pub pattern_over : 0x7f80_0000 ≤ assembled → 0x7f80_0000 ≡ pattern x t
-  pattern_over l = sym (min-eq_right l) ∙ high
+pub written_high : (x t : ℕ) → 897 ≤ x → x < 2047 → t < 2 ^ 52
+    → to_bits binary32 (narrow (of_fields binary64 false x t)) ≡ min ((x - 897) * 2 ^ 23 + closest (t + 2 ^ 52) (2 ^ 29)) 0x7f80_0000
+written_high x t l k h = unsigned x t k h ∙ pattern_high x t l k
 
 -- what `magnitude` ensures, of a number that is the pattern
 pub answer : (x t r : ℕ) → x < 2047 → t < 2 ^ 52 → r ≡ pattern x t → (r ≡ written false x t) × (r ≤ 0x7f80_0000)

@@ -69,9 +69,9 @@ is_nan_lem (fin s m e) h = absurd (false≢true h)
 pub pattern_nan : (b : ℕ) → 0x7ff0_0000_0000_0000 < bit_and b 0x7fff_ffff_ffff_ffff → of_bits binary64 b ≡ nan
 pattern_nan b h = is_nan_lem (of_bits binary64 b) (sym (nan_bits_is binary64 b) ∙ tested b ∙ lt-ltb _ _ h)
 
-pub refused : (b : ℕ) → 0x7ff0_0000_0000_0000 < bit_and b 0x7fff_ffff_ffff_ffff → nan ≡ micrometres b
+pub refused : (b : ℕ) → 0x7ff0_0000_0000_0000 < bit_and b 0x7fff_ffff_ffff_ffff → micrometres b ≡ nan
 unfolding micrometres narrow mul
-refused b h = sym (ap (λ (v : Float). narrow (mul binary64 v million)) (pattern_nan b h))
+refused b h = ap (λ (v : Float). narrow (mul binary64 v million)) (pattern_nan b h)
 
 pub taken : (b : ℕ) → bit_and b 0x7fff_ffff_ffff_ffff ≤ 0x7ff0_0000_0000_0000 → T (not (nan_bits binary64 b))
 taken b h = subst (λ (t : Bool). T (not t)) (sym (tested b ∙ le-ltb _ _ h)) tt

@@ -31,6 +31,7 @@ fn without_last(m: u64, digits: u64) -> u64
 
 // The f32 pattern of a finite double, without the sign. The leading digit of what is kept adds one to the exponent's
 // field, and a carry adds one more, so the two parts are added.
+#[tactic(auto, using(crate::proofs::Double::written_high))]
 fn magnitude(exponent: u64, fraction: u64) -> u64
     requires { (exponent < 2047) × (fraction < 2 ^ 52) }
     ensures { (result ≡ to_bits binary32 (narrow (of_fields binary64 false exponent fraction))) × (result ≤ 0x7f80_0000) }
@@ -83,6 +84,7 @@ pub enum Micrometres {
 }
 
 // The micrometres of the 64-bit pattern of a voxel size in metres: one product in f64, then narrowed.
+#[tactic(auto, using(crate::proofs::Product::refused))]
 pub fn to_micrometres(bits: u64) -> Micrometres
     ensures { float_of result ≡ micrometres bits }
 {

@@ -10,29 +10,26 @@ use Rattle.lsm_values.proofs.Laws.{array_many, array_empty, array_no_number, arr
 use Rattle.lsm_format.proofs.Told.{told}
 use Rattle.lsm_values.proofs.array_at.Goals as goal
 
-pub returns-then-count-gt-MAX_STRIP_COUNT : goal.returns-then-count-gt-MAX_STRIP_COUNT
-returns-then-count-gt-MAX_STRIP_COUNT c = array_many _ _ _ _ _ c.if-count-gt-MAX_STRIP_COUNT.true
-
 pub returns-then-count-eq0 : goal.returns-then-count-eq0
 unfolding values
 returns-then-count-eq0 c = array_empty _ _ _ _ _ c.if-count-eq0.true
 
 pub returns-in_default : goal.returns-in_default
 returns-in_default c =
-    array_no_number _ _ _ _ _ c.if-count-gt-MAX_STRIP_COUNT.false c.if-count-eq0.false (told integer_of c.integer_width.ensures c.in_default.is)
+    array_no_number _ _ _ _ _ (omega arith) c.if-count-eq0.false (told integer_of c.integer_width.ensures c.in_default.is)
 
 pub returns-then-buf-place : goal.returns-then-buf-place
 returns-then-buf-place c =
-    array_past _ _ _ _ _ _ c.if-count-gt-MAX_STRIP_COUNT.false c.if-count-eq0.false (told integer_of c.integer_width.ensures c.in-Of.is) (omega arith)
+    array_past _ _ _ _ _ _ (omega arith) c.if-count-eq0.false (told integer_of c.integer_width.ensures c.in-Of.is) (omega arith)
 
 pub overflow_mul-width_bytes : goal.overflow_mul-width_bytes
 overflow_mul-width_bytes c =
-    record { fits = omega (arith, mul-le-mul {n₁ = c.width_bytes.result} {m₁ = c.args.count} {n₂ = 4} {m₂ = 100000} c.width_bytes.ensures.1 c.if-count-gt-MAX_STRIP_COUNT.false) }
+    record { fits = omega (arith, mul-le-mul {n₁ = c.width_bytes.result} {m₁ = c.args.count} {n₂ = 4} {m₂ = 100000} c.width_bytes.ensures.1 (omega arith)) }
 
 pub returns-then-buf-place-2 : goal.returns-then-buf-place-2
 returns-then-buf-place-2 c =
-    array_past _ _ _ _ _ _ c.if-count-gt-MAX_STRIP_COUNT.false c.if-count-eq0.false (told integer_of c.integer_width.ensures c.in-Of.is) (rw (sym c.width_bytes.ensures.0) (omega arith))
+    array_past _ _ _ _ _ _ (omega arith) c.if-count-eq0.false (told integer_of c.integer_width.ensures c.in-Of.is) (rw (sym c.width_bytes.ensures.0) (omega arith))
 
 pub returns : goal.returns
 returns c =
-    array_there _ _ _ _ _ _ c.if-count-gt-MAX_STRIP_COUNT.false c.if-count-eq0.false (told integer_of c.integer_width.ensures c.in-Of.is) (rw (sym c.width_bytes.ensures.0) (omega arith))
+    array_there _ _ _ _ _ _ (omega arith) c.if-count-eq0.false (told integer_of c.integer_width.ensures c.in-Of.is) (rw (sym c.width_bytes.ensures.0) (omega arith))

@@ -10,14 +10,3 @@ use Rattle.lsm_values.proofs.value_place.Goals as goal
 
 pub overflow_mul-size : goal.overflow_mul-size
 overflow_mul-size c = record { fits = omega (arith, mul-le-mul {n₁ = c.args.size} {m₁ = c.args.count} {n₂ = 8} {m₂ = 2 ^ 32} c.requires (omega arith)) }
-
-pub returns-then-size-count-le4 : goal.returns-then-size-count-le4
-returns-then-size-count-le4 c = place_in_entry _ _ _ _ _ c.if-size-count-le4.true
-
-pub returns-in-Value : goal.returns-in-Value
-returns-in-Value c =
-    place_by_offset _ _ _ _ _ _ c.if-size-count-le4.false (told u32_of c.read_u32.ensures c.in-Value.is)
-
-pub returns-in-Parse : goal.returns-in-Parse
-returns-in-Parse c =
-    place_by_offset _ _ _ _ _ _ c.if-size-count-le4.false (told u32_of c.read_u32.ensures c.in-Parse.is)

@@ -1,12 +1,12 @@
 -- `narrowing::magnitude` meets its contract, by the law of each range of exponents in `proofs.Double`: `pattern_subnormal`, `pattern_low`,
--- `pattern_high`, `pattern_over`. What is left here is that the exponent's field and the digits kept have a sum that fits (`closest_le`).
--- Assumes nothing.
+-- and `written_high`, which the function's attribute names. What is left here is that the exponent's field and the digits kept have a sum
+-- that fits (`closest_le`). Assumes nothing.
 use mathlib.Core.Path.{◌∙◌}
 use Prim.Native.Nat.{suc, ◌+◌, ◌^◌, ◌≤◌}
 use native.Mathlib.Nat.{le_trans, le_of_eq}
 use native.Mathlib.Omega.{arith}
 use Rattle.narrowing.proofs.Halves.{closest_le}
-use Rattle.narrowing.proofs.Double.{pattern_subnormal, pattern_low, pattern_high, pattern_over, answer}
+use Rattle.narrowing.proofs.Double.{pattern_subnormal, pattern_low, answer}
 use borrow.Author.Rules.{rules}
 use Rattle.narrowing.proofs.magnitude.Goals as goal
 
@@ -24,13 +24,3 @@ overflow_add-pattern c =
     let m = c.args.fraction + 2 ^ 52 in
     let l : c.without_last-2.result ≤ suc m = le_trans (le_of_eq c.without_last-2.ensures) (closest_le m _) in
     omega arith
-
-pub returns-then-pattern-lt2139095040 : goal.returns-then-pattern-lt2139095040
-returns-then-pattern-lt2139095040 c =
-    answer c.args.exponent c.args.fraction _ (search rules) (search rules)
-    (pattern_high c.args.exponent c.args.fraction c.without_last-2.result (search rules) (search rules) (search rules) c.without_last-2.ensures (search rules))
-
-pub returns-else-pattern-lt2139095040 : goal.returns-else-pattern-lt2139095040
-returns-else-pattern-lt2139095040 c =
-    answer c.args.exponent c.args.fraction 0x7f80_0000 (search rules) (search rules)
-    (pattern_over c.args.exponent c.args.fraction c.without_last-2.result (search rules) (search rules) (search rules) c.without_last-2.ensures (search rules))
