@@ -1,12 +1,13 @@
--- `lsm_values::array_at` meets its contract: each answer is a law of `proofs.Laws`, by the tests before it. The definition reads the
--- values one by one; that the last byte decides for all of them is `array_there` and `array_past`. At most 100,000 values of at most 4
--- bytes keep the product in 64 bits. In the answers, `i` is the call of `integer_width`, and `w` the width that it gave. Assumes nothing.
+-- `lsm_values::array_at` meets its contract: each answer is a law of `proofs.Laws`, by the tests before it. That more than 100,000 strips
+-- are refused the check finds by itself, once it sees the definition. The definition reads the values one by one; that the last byte
+-- decides for all of them is `array_there` and `array_past`. At most 100,000 values of at most 4 bytes keep the product in 64 bits.
+-- Assumes nothing.
 use native.Mathlib.Omega.{arith}
 use native.Mathlib.Nat.{mul-le-mul}
 use mathlib.Core.Path.{sym}
 use Rattle.lsm_values.specs.Values.{values}
 use Rattle.lsm_values.specs.Code.{integer_of}
-use Rattle.lsm_values.proofs.Laws.{array_many, array_empty, array_no_number, array_past, array_there}
+use Rattle.lsm_values.proofs.Laws.{array_empty, array_no_number, array_past, array_there}
 use Rattle.lsm_format.proofs.Told.{told}
 use Rattle.lsm_values.proofs.array_at.Goals as goal
 
