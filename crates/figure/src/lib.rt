@@ -245,7 +245,6 @@ fn letter(n: u32) -> u8
 }
 
 // The digits with a point after the first, and no zero at the end.
-#[tactic(auto, using(crate::proofs::Texts::none))]
 fn point_text(q: u32) -> Figure
     requires { q < 1000 }
     ensures short { result.len ≤ 4 }

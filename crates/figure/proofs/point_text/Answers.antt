@@ -1,6 +1,6 @@
--- `figure::point_text` meets its contract, by which digits at the end are zeros. Each `push` ensures its text from the text before; the
--- steps are put together for the longest text by `point`, and for the two shorter ones by the check itself, which begins at `none`, named
--- in the function's attribute. Assumes nothing.
+-- `figure::point_text` meets its contract, by which digits at the end are zeros. Each `push` ensures its text from the text before. For the
+-- longest text the steps are put together by `point`; the two shorter ones, and that at most four bytes are used, the check finds by itself.
+-- Assumes nothing.
 use Prim.Native.Nat.{◌%◌}
 use native.Mathlib.Omega.{arith}
 use mathlib.Core.Bool.{false}
