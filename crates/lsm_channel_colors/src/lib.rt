@@ -69,7 +69,7 @@ fn color_at(buf: &[u8], at: usize) -> Color
     Color::Rgb(red, green, blue)
 }
 
-// Where a channel's colour word stands. A handed_in block or channel can be any number, so the sum may overflow.
+// Where a channel's colour word stands. A handed-in block or channel can be any number, so the sum may overflow.
 fn color_place(block: usize, table: usize, channel: usize) -> Word
     ensures { word_of result ≡ word (block + table + 4 * channel) }
 {

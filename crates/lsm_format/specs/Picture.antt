@@ -208,7 +208,7 @@ abbrev pub window_end : Description → Rect → ℕ
 window_end d r = (r.y + r.h - 1) * row_bytes d + (r.x + r.w) * sample_size d.kind
 
 -- "the page, and all the channel's strips within the file". The last line always holds for the pages of the test, whose strips hold all
--- rows of the picture. Past them, where only a handed_in description leads, a sample may be missing: "an outcome that they leave free", and
+-- rows of the picture. Past them, where only a handed-in description leads, a sample may be missing: "an outcome that they leave free", and
 -- it is 2.
 unfoldable pub row_strips : Description → List ℕ → ℕ → Coordinate → Rect → Result Strips
 row_strips d table len co r =

@@ -113,7 +113,7 @@ name_text (some name) = 61 ∷ [] ++ hex_bytes name
 unfoldable pub channel_line : Channel → List ℕ
 channel_line c = color_text c.color ++ 32 ∷ [] ++ name_text c.name
 
--- `notes 0`, or "After `notes 1` comes a line of `placeholder` or `too_large`, a space and the figure."
+-- `notes 0`, or "After `notes 1` comes a line of `placeholder` or `too-large`, a space and the figure."
 abbrev pub no_note : List ℕ
 no_note = 110 ∷ 111 ∷ 116 ∷ 101 ∷ 115 ∷ 32 ∷ 48 ∷ []
 

@@ -1,4 +1,4 @@
-// Where a picture's strips stand in the table, and whether all pages' strips hold whole rows. A handed_in description can name any
+// Where a picture's strips stand in the table, and whether all pages' strips hold whole rows. A handed-in description can name any
 // page, so every product is tested before it is used.
 ghost use Rattle.std.specs.Prelude.{◌≡◌, true, ◌+◌, ◌*◌, ◌≤◌, ◌<◌, length};
 ghost use Rattle.lsm_format.specs.Code.{coordinate_of};

@@ -1,5 +1,5 @@
 -- Time series (document 02, request 1): a small file of three weeks, two planes and two channels, with its list and that of a rectangle of the last
--- week; pages of a layout; and what a handed_in description with a T of its own asks for. Words in quotation marks are document 02's, or document 01's.
+-- week; pages of a layout; and what a handed-in description with a T of its own asks for. Words in quotation marks are document 02's, or document 01's.
 use Prim.Native.Nat.{ℕ, ◌+◌, ◌-◌, ◌^◌}
 use mathlib.Core.Path.{◌≡◌, refl}
 use mathlib.Core.List.{List, [], ◌∷◌, ◌++◌}
