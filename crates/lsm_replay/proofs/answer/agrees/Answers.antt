@@ -1,11 +1,8 @@
 -- `lsm_replay::answer::agrees` meets its contract. The loop's invariant: each number before `i` is the same in both. What is owed says
 -- something of `true` alone, so every early answer, which is `false`, owes a contradiction; the tests before the loop keep both reads
 -- inside their arrays. Assumes nothing.
-use Prim.Native.Nat.{ℕ, ◌+◌, ◌-◌, ◌≤◌, ◌<◌}
 use native.Mathlib.Omega.{arith}
-use mathlib.Core.Path.{◌≡◌}
 use borrow.Author.Count.{below_more}
-use lib.ListN.{get_or}
 use Rattle.lsm_format.proofs.Apart.{no_case}
 use borrow.Author.Rules.{rules}
 use Rattle.lsm_replay.proofs.answer.agrees.Goals as goal

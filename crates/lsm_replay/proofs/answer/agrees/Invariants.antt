@@ -1,9 +1,6 @@
 use Prim.Native.Nat.{ℕ, ◌+◌, ◌-◌, ◌≤◌, ◌<◌}
-use native.Mathlib.Omega.{arith}
 use mathlib.Core.Path.{◌≡◌}
-use borrow.Author.Count.{below_more}
 use lib.ListN.{get_or}
-use Rattle.lsm_format.proofs.Apart.{no_case}
 use Rattle.lsm_replay.proofs.answer.agrees.Given as goal
 
 abbrev pub invariant-loop-i : goal.invariant-loop-i

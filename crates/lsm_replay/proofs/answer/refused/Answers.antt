@@ -1,8 +1,6 @@
 -- `lsm_replay::answer::refused` meets its contract. The loop's invariant: the answer has `i` numbers, and `i` is at most five. So `with`
 -- has room for one more, and adds it. Assumes nothing.
-use Prim.Native.Nat.{◌-◌, ◌≤◌}
 use native.Mathlib.Omega.{arith}
-use mathlib.Core.Path.{◌≡◌}
 use Rattle.lsm_replay.proofs.answer.refused.Goals as goal
 
 pub loop-i-preserved : goal.loop-i-preserved

@@ -1,8 +1,7 @@
 -- `lsm_replay::voxels::letters` meets its contract. The loop's invariant: at most eight letters, and no more than the figure has, were
 -- taken, and without one the number is 0. The test in the loop keeps the next product and sum in 64 bits. Assumes nothing.
-use Prim.Native.Nat.{◌-◌, ◌≤◌}
 use native.Mathlib.Omega.{arith}
-use mathlib.Core.Path.{◌≡◌, refl}
+use mathlib.Core.Path.{refl}
 use Rattle.lsm_replay.proofs.voxels.letters.Goals as goal
 
 pub loop-i-init : goal.loop-i-init

@@ -1,6 +1,5 @@
 use Prim.Native.Nat.{◌-◌, ◌≤◌}
-use native.Mathlib.Omega.{arith}
-use mathlib.Core.Path.{◌≡◌, refl}
+use mathlib.Core.Path.{◌≡◌}
 use Rattle.lsm_replay.proofs.voxels.letters.Given as goal
 
 abbrev pub invariant-loop-i : goal.invariant-loop-i
