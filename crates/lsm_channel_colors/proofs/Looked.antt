@@ -2,7 +2,7 @@
 use Prim.Native.Nat.{ℕ, zero, suc, ◌+◌, ◌-◌, ◌*◌, ◌≤◌, ◌<◌}
 use native.Mathlib.Omega.{arith}
 use mathlib.Core.Path.{◌≡◌, refl, sym, ap, ◌∙◌, subst}
-use mathlib.Core.Option.{Option, none, some}
+use Rattle.std.specs.Prelude.{Option, None, Some}
 use mathlib.Core.List.{List}
 use lib.IntN.{ℤ, pos, negsuc}
 use lib.ListN.{length, take, drop}
@@ -31,13 +31,13 @@ use Rattle.lsm_channel_colors.specs.declared.Stated.{Stated}
 
 -- ---- a channel's colour: no pointer; a pointer that points
 
-pub no_colors : (f : List ℕ) (block : ℕ) (z : ℤ) (channel : ℕ) → pointed z ≡ none → none ≡ color f block z channel
+pub no_colors : (f : List ℕ) (block : ℕ) (z : ℤ) (channel : ℕ) → pointed z ≡ None → None ≡ color f block z channel
 unfolding color
 no_colors f block (pos zero) channel e = refl
 no_colors f block (pos (suc n)) channel e = no_case cc
 no_colors f block (negsuc n) channel e = refl
 
-pub color_is : (f : List ℕ) (block : ℕ) (z : ℤ) (channel n place : ℕ) → pointed z ≡ some n → place ≡ block + n + 4 * channel →
+pub color_is : (f : List ℕ) (block : ℕ) (z : ℤ) (channel n place : ℕ) → pointed z ≡ Some n → place ≡ block + n + 4 * channel →
     color_at f place ≡ color f block z channel
 color_is f block z channel n place e p =
     let q = pointed_is z n e in rw (q.0, p) (sym (color_pointed f block n channel q.1))
@@ -49,11 +49,11 @@ record_inside o f block z channel Absent e = tt
 record_inside o f block z channel (At start len) e = span_inside o f block z channel start len (sym e)
 
 module _ (o : Order) (f : List ℕ) (block : Option ℕ) (channel : ℕ) where
-  pub stating_nowhere : block ≡ none → Stating o f block channel (record { color = NoColor; name = Absent })
+  pub stating_nowhere : block ≡ None → Stating o f block channel (record { color = NoColor; name = Absent })
   unfolding channel_in
   stating_nowhere e = record { color = rw e; text = rw e; inside = tt }
 
-  pub stating_unread : (place : ℕ) → block ≡ some place → pointers o f place ≡ refused parse →
+  pub stating_unread : (place : ℕ) → block ≡ Some place → pointers o f place ≡ refused parse →
       Stating o f block channel (record { color = NoColor; name = Absent })
   stating_unread place e p = record {
     color = rw (e, channel_unread o f place channel p);
@@ -61,7 +61,7 @@ module _ (o : Order) (f : List ℕ) (block : Option ℕ) (channel : ℕ) where
     inside = tt;
   }
 
-  pub stating_there : (place : ℕ) (a b : ℤ) (c : Color) (n : Record) → block ≡ some place → pointers o f place ≡ accepted (a, b) →
+  pub stating_there : (place : ℕ) (a b : ℤ) (c : Color) (n : Record) → block ≡ Some place → pointers o f place ≡ accepted (a, b) →
       color_of c ≡ color f place a channel → span_of n ≡ name_span o f place b channel → Stating o f block channel (record { color = c; name = n })
   unfolding name
   stating_there place a b c n e p h k = record {
@@ -90,9 +90,9 @@ module _ (o : Order) (f : List ℕ) (block : Option ℕ) (channels channel : ℕ
 
   module _ (s : Stated) (h : channel < channels) (g : Stating o f block channel s) where
     pub looked_nameless : (before : List ℕ) → s.name ≡ Absent →
-        Looked o f block channels channel before before (accepted (record { color = color_of s.color; name = none }))
+        Looked o f block channels channel before before (accepted (record { color = color_of s.color; name = None }))
     looked_nameless before e =
-        let t : (channel_in o f block channel).name ≡ none = sym g.text ∙ ap (λ (r : Record). text_in f (span_of r)) e in
+        let t : (channel_in o f block channel).name ≡ None = sym g.text ∙ ap (λ (r : Record). text_in f (span_of r)) e in
         record {
           answered = rw (lookup_nameless o f block channels channel (length before) h t, t, ← g.color);
           memory = sym (memory_nameless o f block channels channel before h t);
@@ -100,7 +100,7 @@ module _ (o : Order) (f : List ℕ) (block : Option ℕ) (channels channel : ℕ
 
     module _ (before after : List ℕ) (start len : ℕ) (e : s.name ≡ At start len) (d : Decoded)
         (k : Decoding (trimmed (take len (drop start f))) before after (decoded_of d)) where
-      text_of : (channel_in o f block channel).name ≡ some (lossy (trimmed (take len (drop start f))))
+      text_of : (channel_in o f block channel).name ≡ Some (lossy (trimmed (take len (drop start f))))
       text_of = sym g.text ∙ ap (λ (r : Record). text_in f (span_of r)) e
 
       answer_of_lem : lookup o f block channels channel (length before) ≡ bind (decoded_of d) (λ _. accepted (channel_in o f block channel))
@@ -112,7 +112,7 @@ module _ (o : Order) (f : List ℕ) (block : Option ℕ) (channels channel : ℕ
       memory_of = k.memory ∙ sym (memory_named o f block channels channel before _ h text_of)
 
       pub looked_named : (n : ℕ) → d ≡ Length n →
-          Looked o f block channels channel before after (accepted (record { color = color_of s.color; name = some n }))
+          Looked o f block channels channel before after (accepted (record { color = color_of s.color; name = Some n }))
       unfolding bind
       looked_named n v =
           let l : n ≡ length (lossy (trimmed (take len (drop start f)))) = (told_length k v).0 in

@@ -1,6 +1,5 @@
 -- What the channel's types mean in the definitions' terms.
-use Rattle.std.specs.Prelude.{ℕ, ◌≡◌, List, [], ◌∷◌, length}
-use Rattle.std.proofs.Math.Option.{Option, none, some}
+use Rattle.std.specs.Prelude.{ℕ, ◌≡◌, List, [], ◌∷◌, length, Option, None, Some}
 use Rattle.lsm_format.specs.Answer.{Result, accepted, refused}
 use Rattle.lsm_format.specs.Code.{row_of}
 use Rattle.lsm_format.specs.Channels as Rule
@@ -20,12 +19,12 @@ pub record Seen : Type 0 where
   pub name : Option ℕ
 
 abbrev pub color_of : Color → Option (List ℕ)
-color_of NoColor = none
-color_of (Rgb r g b) = some (r ∷ g ∷ b ∷ [])
+color_of NoColor = None
+color_of (Rgb r g b) = Some (r ∷ g ∷ b ∷ [])
 
 abbrev pub name_of : Name → Option ℕ
-name_of NoName = none
-name_of (Length n) = some n
+name_of NoName = None
+name_of (Length n) = Some n
 
 abbrev pub meta_of : ChannelMeta → Seen
 meta_of m = record { color = color_of m.color; name = name_of m.name }
@@ -36,8 +35,8 @@ answer_of (Refused r) = refused (row_of r)
 
 -- The same of the definition's channel.
 abbrev pub length_of : Option (List ℕ) → Option ℕ
-length_of none = none
-length_of (some text) = some (length text)
+length_of None = None
+length_of (Some text) = Some (length text)
 
 abbrev pub seen : Result Rule.Channel → Result Seen
 seen (accepted c) = accepted (record { color = c.color; name = length_of c.name })

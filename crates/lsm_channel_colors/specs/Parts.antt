@@ -1,6 +1,5 @@
 -- What the private functions answer, in the definitions' terms.
-use Rattle.std.specs.Prelude.{ℕ, ◌+◌, ◌≤◌, ◌≡◌, List, length, take, drop}
-use Rattle.std.proofs.Math.Option.{Option, none, some}
+use Rattle.std.specs.Prelude.{ℕ, ◌+◌, ◌≤◌, ◌≡◌, List, length, take, drop, Option, None, Some}
 use Rattle.lsm_format.specs.Channels.{trimmed, text_in, channel_in}
 use Rattle.lsm_format.specs.Numbers.{Order}
 use Rattle.lsm_channel_colors.specs.Tables.{span_of}
@@ -14,8 +13,8 @@ pub record Trimming (f : List ℕ) (start len r : ℕ) : Type 0 where
 
 -- A name's bytes lie in the file.
 abbrev pub Inside : List ℕ → Option (ℕ × ℕ) → Type 0
-Inside f none = Unit {0}
-Inside f (some r) = r.0 + r.1 ≤ length f
+Inside f None = Unit {0}
+Inside f (Some r) = r.0 + r.1 ≤ length f
 
 -- A channel's colour, and the bytes that its name is made of.
 pub record Stating (o : Order) (f : List ℕ) (block : Option ℕ) (channel : ℕ) (s : Stated) : Type 0 where

@@ -1,6 +1,5 @@
 -- What the block's types mean in the definitions' terms.
-use Rattle.std.specs.Prelude.{ℕ, ℤ}
-use Rattle.std.proofs.Math.Option.{Option}
+use Rattle.std.specs.Prelude.{ℕ, ℤ, Option}
 use Rattle.lsm_format.specs.Answer.{Result, accepted, refused}
 use Rattle.lsm_format.specs.Code.{row_of, block_of}
 use Rattle.lsm_format.specs.Calibration as Sizes

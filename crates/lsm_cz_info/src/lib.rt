@@ -3,8 +3,7 @@
 
 mod header;
 
-ghost use Rattle.std.specs.Prelude.{◌≡◌, ◌+◌, ◌≤◌, leb, pos, length};
-ghost use Rattle.std.proofs.Math.Option.{none};
+ghost use Rattle.std.specs.Prelude.{◌≡◌, ◌+◌, ◌≤◌, leb, pos, length, None};
 ghost use Rattle.lsm_format.specs.Calibration.{uncalibrated};
 ghost use Rattle.lsm_format.specs.Code.{order_of, block_of};
 ghost use Rattle.lsm_format.specs.CzInfo.{extents, stated, voxels, block_place, channel_block, shots, from, cz_info};
@@ -201,7 +200,7 @@ fn placed(n: i32) -> ChannelBlock
 
 fn read_channel_block(buf: &[u8], block: usize, bytes: usize, e: Endian) -> ChannelAnswer
     requires { block + bytes ≤ length buf.now }
-    ensures { channel_of result ≡ from (leb 112 bytes) (channel_block (order_of e) buf.now block) none }
+    ensures { channel_of result ≡ from (leb 112 bytes) (channel_block (order_of e) buf.now block) None }
 {
     if bytes < CHANNEL_COLORS_END {
         return ChannelAnswer::Block(ChannelBlock::Absent);

@@ -1,6 +1,5 @@
 -- What the directory's types mean in the definitions' terms.
-use Rattle.std.specs.Prelude.{ℕ, ◌^◌, ◌<◌, List}
-use Rattle.std.proofs.Math.Option.{Option, none, some}
+use Rattle.std.specs.Prelude.{ℕ, ◌^◌, ◌<◌, List, Option, None, Some}
 use Rattle.lsm_format.specs.Answer.{Result, accepted, refused, parse}
 use Rattle.lsm_format.specs.Code.{row_of}
 use Rattle.lsm_format.specs.Numbers.{Order}
@@ -24,8 +23,8 @@ use Rattle.lsm_directory.specs.declared.First.{First}
 use Rattle.lsm_directory.specs.declared.First.TheVariants.{Absent as NoPage, Page}
 
 abbrev pub cz_of : CzEntry → Option (ℕ × ℕ)
-cz_of Absent = none
-cz_of (Block offset declared) = some (offset, declared)
+cz_of Absent = None
+cz_of (Block offset declared) = Some (offset, declared)
 
 abbrev pub scalars_of : Directory → Rule.Field → ℕ
 scalars_of d new_subfile_type = d.new_subfile_type
@@ -92,5 +91,5 @@ SmallEnds (At n next) = (n < 2 ^ 16) × (next < 2 ^ 32)
 SmallEnds Parse = Unit {0}
 
 abbrev pub first_meant : Order → List ℕ → First → Option Rule.Directory
-first_meant o f NoPage = none
-first_meant o f (Page d) = some (directory_of o f d)
+first_meant o f NoPage = None
+first_meant o f (Page d) = Some (directory_of o f d)

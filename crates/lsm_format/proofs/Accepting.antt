@@ -1,7 +1,7 @@
 -- What holds of whatever a rule accepts, step by step. Assumes nothing.
 use Prim.Native.Nat.{ℕ}
 use mathlib.Core.Bool.{Bool, true, false, ◌&&◌}
-use mathlib.Core.Option.{Option, none, some}
+use Rattle.std.specs.Prelude.{Option, None, Some}
 use mathlib.Core.Path.{◌≡◌, refl, subst}
 use mathlib.Core.List.{List}
 use Rattle.lsm_format.specs.Answer.{Result, accepted, refused, bind, need, given}
@@ -29,10 +29,10 @@ unfolding Accepting
 accepting_need row true = refl
 accepting_need row false = tt
 
-pub accepting_given : {A : Type 0} (row : List ℕ) (x : Option A) → Accepting (λ (a : A). x ≡ some a) (given row x)
+pub accepting_given : {A : Type 0} (row : List ℕ) (x : Option A) → Accepting (λ (a : A). x ≡ Some a) (given row x)
 unfolding Accepting
-accepting_given row none = tt
-accepting_given row (some a) = refl
+accepting_given row None = tt
+accepting_given row (Some a) = refl
 
 pub accepting_map : {A : Type 0} (P Q : A → Type 0) (m : Result A) → ((a : A) → P a → Q a) → Accepting P m → Accepting Q m
 unfolding Accepting

@@ -3,7 +3,7 @@ use Prim.Native.Nat.{ℕ, zero, suc, ◌+◌, ◌*◌, ◌-◌, ◌≤◌, ◌<�
 use native.Mathlib.Omega.{arith}
 use mathlib.Core.Bool.{Bool, true, false}
 use mathlib.Core.Path.{◌≡◌, refl, sym, ap, ◌∙◌}
-use mathlib.Core.Option.{Option, none, some}
+use Rattle.std.specs.Prelude.{Option, None, Some}
 use mathlib.Core.List.{List, [], ◌∷◌, ◌++◌}
 use lib.Dec.{leb}
 use lib.IntN.{ℤ, pos, negsuc}
@@ -54,11 +54,11 @@ module _ (o : Order) (f : List ℕ) (block : ℕ) where
 -- ---- colours
 
 module _ (f : List ℕ) (place : ℕ) where
-  pub color_past : length f < place + 4 → none ≡ color_at f place
+  pub color_past : length f < place + 4 → None ≡ color_at f place
   unfolding color_at
   color_past h = rw (lt-leb (place + 4) (length f) h, color_at)
 
-  pub color_there : place + 4 ≤ length f → some (get_or f place 0 ∷ get_or f (place + 1) 0 ∷ get_or f (place + 2) 0 ∷ []) ≡ color_at f place
+  pub color_there : place + 4 ≤ length f → Some (get_or f place 0 ∷ get_or f (place + 1) 0 ∷ get_or f (place + 2) 0 ∷ []) ≡ color_at f place
   unfolding color_at
   color_there h = rw (le-leb (place + 4) (length f) h, color_at, part_bytes 3 f place (omega arith))
 
@@ -71,50 +71,50 @@ color_pointed f block (suc n) channel h = refl
 
 module _ (o : Order) (f : List ℕ) (place : ℕ) where
   -- no length word; a negative length; a name that passes the end; the record
-  pub record_unread : i32_at o f place ≡ refused parse → none ≡ name_record o f place
+  pub record_unread : i32_at o f place ≡ refused parse → None ≡ name_record o f place
   unfolding name_record
   record_unread e = rw e
 
-  pub record_negative : (n : ℕ) → i32_at o f place ≡ accepted (negsuc n) → none ≡ name_record o f place
+  pub record_negative : (n : ℕ) → i32_at o f place ≡ accepted (negsuc n) → None ≡ name_record o f place
   unfolding name_record
   record_negative n e = rw e
 
-  pub record_past : (n : ℕ) → i32_at o f place ≡ accepted (pos n) → length f < place + 4 + n → none ≡ name_record o f place
+  pub record_past : (n : ℕ) → i32_at o f place ≡ accepted (pos n) → length f < place + 4 + n → None ≡ name_record o f place
   unfolding name_record
   record_past n e h = rw (e, lt-leb (place + 4 + n) (length f) h, record_by)
 
-  pub record_there : (n : ℕ) → i32_at o f place ≡ accepted (pos n) → place + 4 + n ≤ length f → some (place + 4, n) ≡ name_record o f place
+  pub record_there : (n : ℕ) → i32_at o f place ≡ accepted (pos n) → place + 4 + n ≤ length f → Some (place + 4, n) ≡ name_record o f place
   unfolding name_record
   record_there n e h = rw (e, le-leb (place + 4 + n) (length f) h, record_by)
 
 -- a record ends in the file
-pos_by : (b : Bool) (f : List ℕ) (start m s n : ℕ) → leb (start + m) (length f) ≡ b → record_by f start (accepted (pos m)) ≡ some (s, n) →
+pos_by : (b : Bool) (f : List ℕ) (start m s n : ℕ) → leb (start + m) (length f) ≡ b → record_by f start (accepted (pos m)) ≡ Some (s, n) →
     s + n ≤ length f
 pos_by true f start m s n t e =
-    let q : record_by f start (accepted (pos m)) ≡ some (start, m) = rw (t, record_by) in
+    let q : record_by f start (accepted (pos m)) ≡ Some (start, m) = rw (t, record_by) in
     let w : ◌≡◌ {A = ℕ × ℕ} (start, m) (s, n) = cc in
     omega (arith, leb-true (start + m) (length f) t, ap (λ (x : ℕ × ℕ). x.0) w, ap (λ (x : ℕ × ℕ). x.1) w)
 pos_by false f start m s n t e =
-    let q : record_by f start (accepted (pos m)) ≡ none = rw (t, record_by) in
+    let q : record_by f start (accepted (pos m)) ≡ None = rw (t, record_by) in
     no_case cc
 
-inside_by : (f : List ℕ) (start : ℕ) (r : Result ℤ) (s n : ℕ) → record_by f start r ≡ some (s, n) → s + n ≤ length f
+inside_by : (f : List ℕ) (start : ℕ) (r : Result ℤ) (s n : ℕ) → record_by f start r ≡ Some (s, n) → s + n ≤ length f
 inside_by f start (accepted (pos m)) s n e = pos_by (leb (start + m) (length f)) f start m s n refl e
 inside_by f start (accepted (negsuc m)) s n e = no_case cc
 inside_by f start (refused row) s n e = no_case cc
 
-pub record_inside : (o : Order) (f : List ℕ) (place s n : ℕ) → name_record o f place ≡ some (s, n) → s + n ≤ length f
+pub record_inside : (o : Order) (f : List ℕ) (place s n : ℕ) → name_record o f place ≡ Some (s, n) → s + n ≤ length f
 unfolding name_record
 record_inside o f place s n e = inside_by f (place + 4) (i32_at o f place) s n e
 
 -- ---- the record of a channel: none is left to pass; the names end; one more is passed
 
 module _ (o : Order) (f : List ℕ) (place : ℕ) where
-  pub names_end : (channel : ℕ) → name_record o f place ≡ none → record_of o f place (suc channel) ≡ none
+  pub names_end : (channel : ℕ) → name_record o f place ≡ None → record_of o f place (suc channel) ≡ None
   unfolding record_of
   names_end channel e = rw (e, record_of)
 
-  pub names_go : (channel : ℕ) (r : ℕ × ℕ) → name_record o f place ≡ some r → record_of o f place (suc channel) ≡ record_of o f (r.0 + r.1) channel
+  pub names_go : (channel : ℕ) (r : ℕ × ℕ) → name_record o f place ≡ Some r → record_of o f place (suc channel) ≡ record_of o f (r.0 + r.1) channel
   unfolding record_of
   names_go channel r e = rw (e, record_of)
 
@@ -123,23 +123,23 @@ module _ (o : Order) (f : List ℕ) (place : ℕ) where
   record_last zero h = refl
   record_last (suc left) h = absurd (omega arith)
 
-  pub record_ends : (left : ℕ) → 0 < left → name_record o f place ≡ none → none ≡ record_of o f place left
+  pub record_ends : (left : ℕ) → 0 < left → name_record o f place ≡ None → None ≡ record_of o f place left
   record_ends zero h e = absurd (omega arith)
   record_ends (suc left) h e = sym (names_end left e)
 
-  pub record_next : (left s n : ℕ) → 0 < left → name_record o f place ≡ some (s, n) → record_of o f place left ≡ record_of o f (s + n) (left - 1)
+  pub record_next : (left s n : ℕ) → 0 < left → name_record o f place ≡ Some (s, n) → record_of o f place left ≡ record_of o f (s + n) (left - 1)
   record_next zero s n h e = absurd (omega arith)
   record_next (suc left) s n h e = let q : suc left - 1 ≡ left = omega arith in rw q (names_go left (s, n) e)
 
 -- it ends in the file
 channel_by_lem : (r : Option (ℕ × ℕ)) (o : Order) (f : List ℕ) (channel place s n : ℕ) → name_record o f place ≡ r →
-    ((next : ℕ) → record_of o f next channel ≡ some (s, n) → s + n ≤ length f) → record_of o f place (suc channel) ≡ some (s, n) → s + n ≤ length f
-channel_by_lem none o f channel place s n q next e =
-    let x : record_of o f place (suc channel) ≡ none = names_end o f place channel q in
+    ((next : ℕ) → record_of o f next channel ≡ Some (s, n) → s + n ≤ length f) → record_of o f place (suc channel) ≡ Some (s, n) → s + n ≤ length f
+channel_by_lem None o f channel place s n q next e =
+    let x : record_of o f place (suc channel) ≡ None = names_end o f place channel q in
     no_case cc
-channel_by_lem (some r) o f channel place s n q next e = next (r.0 + r.1) (sym (names_go o f place channel r q) ∙ e)
+channel_by_lem (Some r) o f channel place s n q next e = next (r.0 + r.1) (sym (names_go o f place channel r q) ∙ e)
 
-pub channel_inside : (o : Order) (f : List ℕ) (channel place s n : ℕ) → record_of o f place channel ≡ some (s, n) → s + n ≤ length f
+pub channel_inside : (o : Order) (f : List ℕ) (channel place s n : ℕ) → record_of o f place channel ≡ Some (s, n) → s + n ≤ length f
 unfolding record_of
 channel_inside o f zero place s n e = record_inside o f place s n e
 channel_inside o f (suc channel) place s n e =
@@ -199,35 +199,35 @@ module _ (o : Order) (f : List ℕ) (block n channel : ℕ) (p : 0 < n) where
       pointed zero h = absurd (omega arith)
       pointed (suc m) h = refl
 
-  pub span_none : record_of o f (block + n) channel ≡ none → none ≡ name_span o f block (pos n) channel
+  pub span_none : record_of o f (block + n) channel ≡ None → None ≡ name_span o f block (pos n) channel
   span_none e = rw (span_pointed, e)
 
-  pub span_long : (s l : ℕ) → record_of o f (block + n) channel ≡ some (s, l) → 1024 < l → none ≡ name_span o f block (pos n) channel
+  pub span_long : (s l : ℕ) → record_of o f (block + n) channel ≡ Some (s, l) → 1024 < l → None ≡ name_span o f block (pos n) channel
   span_long s l e h = rw (span_pointed, e, lt-leb l 1024 h, kept)
 
-  pub span_given : (s l : ℕ) → record_of o f (block + n) channel ≡ some (s, l) → l ≤ 1024 → some (s, l) ≡ name_span o f block (pos n) channel
+  pub span_given : (s l : ℕ) → record_of o f (block + n) channel ≡ Some (s, l) → l ≤ 1024 → Some (s, l) ≡ name_span o f block (pos n) channel
   span_given s l e h = rw (span_pointed, e, le-leb l 1024 h, kept)
 
 -- it lies in the file
-kept_by_test : (b : Bool) (r : ℕ × ℕ) (s n : ℕ) → ◌≡◌ {A = Option (ℕ × ℕ)} (elim b [ true ↦ some r | false ↦ none ]) (some (s, n)) → some r ≡ some (s, n)
+kept_by_test : (b : Bool) (r : ℕ × ℕ) (s n : ℕ) → ◌≡◌ {A = Option (ℕ × ℕ)} (elim b [ true ↦ Some r | false ↦ None ]) (Some (s, n)) → Some r ≡ Some (s, n)
 kept_by_test true r s n e = e
 kept_by_test false r s n e = no_case cc
 
-kept_is : (r : Option (ℕ × ℕ)) (s n : ℕ) → kept r ≡ some (s, n) → r ≡ some (s, n)
-kept_is none s n e = e
-kept_is (some r) s n e = kept_by_test (leb r.1 1024) r s n e
+kept_is : (r : Option (ℕ × ℕ)) (s n : ℕ) → kept r ≡ Some (s, n) → r ≡ Some (s, n)
+kept_is None s n e = e
+kept_is (Some r) s n e = kept_by_test (leb r.1 1024) r s n e
 
-pub kept_inside : (o : Order) (f : List ℕ) (channel place s n : ℕ) → kept (record_of o f place channel) ≡ some (s, n) → s + n ≤ length f
+pub kept_inside : (o : Order) (f : List ℕ) (channel place s n : ℕ) → kept (record_of o f place channel) ≡ Some (s, n) → s + n ≤ length f
 kept_inside o f channel place s n e = channel_inside o f channel place s n (kept_is (record_of o f place channel) s n e)
 
-pub span_inside : (o : Order) (f : List ℕ) (block : ℕ) (names : ℤ) (channel s n : ℕ) → name_span o f block names channel ≡ some (s, n) → s + n ≤ length f
+pub span_inside : (o : Order) (f : List ℕ) (block : ℕ) (names : ℤ) (channel s n : ℕ) → name_span o f block names channel ≡ Some (s, n) → s + n ≤ length f
 unfolding name_span
 span_inside o f block (pos zero) channel s n e = no_case cc
 span_inside o f block (pos (suc m)) channel s n e = kept_inside o f channel (block + suc m) s n e
 span_inside o f block (negsuc m) channel s n e = no_case cc
 
 -- a place past the file's end has no record
-past_by : (channel : ℕ) (o : Order) (f : List ℕ) (place : ℕ) → length f < place + 4 → record_of o f place channel ≡ none
+past_by : (channel : ℕ) (o : Order) (f : List ℕ) (place : ℕ) → length f < place + 4 → record_of o f place channel ≡ None
 unfolding i32_at bind
 past_by zero o f place h =
     let e : i32_at o f place ≡ refused parse = rw (number_past 4 o f place h, i32_at, bind) in
@@ -236,18 +236,18 @@ past_by (suc channel) o f place h =
     let e : i32_at o f place ≡ refused parse = rw (number_past 4 o f place h, i32_at, bind) in
     sym (record_ends o f place (suc channel) (omega arith) (sym (record_unread o f place e)))
 
-pub span_past : (o : Order) (f : List ℕ) (block n channel : ℕ) → 0 < n → length f < block + n + 4 → none ≡ name_span o f block (pos n) channel
+pub span_past : (o : Order) (f : List ℕ) (block n channel : ℕ) → 0 < n → length f < block + n + 4 → None ≡ name_span o f block (pos n) channel
 span_past o f block n channel p h = span_none o f block n channel p (past_by channel o f (block + n) h)
 
 -- ---- a channel
 
 module _ (o : Order) (f : List ℕ) (block channel : ℕ) where
-  pub channel_unread : pointers o f block ≡ refused parse → channel_in o f (some block) channel ≡ record { color = none; name = none }
+  pub channel_unread : pointers o f block ≡ refused parse → channel_in o f (Some block) channel ≡ record { color = None; name = None }
   unfolding channel_in
   channel_unread e = rw e
 
   pub channel_there : (a b : ℤ) → pointers o f block ≡ accepted (a, b) →
-      channel_in o f (some block) channel ≡ record { color = color f block a channel; name = name o f block b channel }
+      channel_in o f (Some block) channel ≡ record { color = color f block a channel; name = name o f block b channel }
   unfolding channel_in
   channel_there a b e = rw e
 
@@ -275,18 +275,18 @@ module _ (o : Order) (f : List ℕ) (block : Option ℕ) (channels channel : ℕ
   unfolding lookup_memory
   memory_inside lent h = rw (lt-ltb channel channels h, lookup_memory)
 
-  pub lookup_nameless : (room : ℕ) → channel < channels → (channel_in o f block channel).name ≡ none →
+  pub lookup_nameless : (room : ℕ) → channel < channels → (channel_in o f block channel).name ≡ None →
       lookup o f block channels channel room ≡ accepted (channel_in o f block channel)
   unfolding bind lend
   lookup_nameless room h e = rw (lookup_inside room h, e, le-leb 0 room (omega arith))
 
-  pub memory_nameless : (lent : List ℕ) → channel < channels → (channel_in o f block channel).name ≡ none → lookup_memory o f block channels channel lent ≡ lent
+  pub memory_nameless : (lent : List ℕ) → channel < channels → (channel_in o f block channel).name ≡ None → lookup_memory o f block channels channel lent ≡ lent
   memory_nameless lent h e = rw (memory_inside lent h, e) (filled_none lent)
 
-  pub lookup_named : (room : ℕ) (text : List ℕ) → channel < channels → (channel_in o f block channel).name ≡ some text →
+  pub lookup_named : (room : ℕ) (text : List ℕ) → channel < channels → (channel_in o f block channel).name ≡ Some text →
       lookup o f block channels channel room ≡ bind (lend (length text) room) (λ _. accepted (channel_in o f block channel))
   lookup_named room text h e = rw (lookup_inside room h, e)
 
-  pub memory_named : (lent text : List ℕ) → channel < channels → (channel_in o f block channel).name ≡ some text →
+  pub memory_named : (lent text : List ℕ) → channel < channels → (channel_in o f block channel).name ≡ Some text →
       lookup_memory o f block channels channel lent ≡ filled text lent
   memory_named lent text h e = rw (memory_inside lent h, e)

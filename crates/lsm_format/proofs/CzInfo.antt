@@ -3,7 +3,7 @@ use Prim.Native.Nat.{ℕ, zero, suc, ◌+◌, ◌-◌, ◌≤◌, ◌<◌}
 use native.Mathlib.Nat.{min-le_left, min-eq_left, min-eq_right}
 use native.Mathlib.Omega.{arith}
 use mathlib.Core.Bool.{Bool, true, false, ◌&&◌}
-use mathlib.Core.Option.{Option, none, some}
+use Rattle.std.specs.Prelude.{Option, None, Some}
 use mathlib.Core.Path.{◌≡◌, refl, sym}
 use mathlib.Core.List.{List}
 use lib.Dec.{T, leb}
@@ -74,12 +74,12 @@ length_most declared (pos zero) = omega arith
 length_most declared (pos (suc n)) = min-le_left declared (suc n)
 length_most declared (negsuc n) = omega arith
 
-pub block_place_none : (z : ℤ) → le_z z (pos 0) ≡ true → none ≡ block_place z
+pub block_place_none : (z : ℤ) → le_z z (pos 0) ≡ true → None ≡ block_place z
 block_place_none (pos zero) t = refl
 block_place_none (pos (suc n)) t = absurd (omega (arith, leb-true (suc n) 0 t))
 block_place_none (negsuc n) t = refl
 
-pub block_place_some : (z : ℤ) → le_z z (pos 0) ≡ false → some (nat_abs z) ≡ block_place z
+pub block_place_some : (z : ℤ) → le_z z (pos 0) ≡ false → Some (nat_abs z) ≡ block_place z
 block_place_some (pos zero) t = absurd (omega (arith, clash t))
 block_place_some (pos (suc n)) t = refl
 block_place_some (negsuc n) t = absurd (omega (arith, clash t))
@@ -314,11 +314,11 @@ module _ (o : Order) (f : List ℕ) (block declared : ℕ) where
         cz_voxels v = rw (cz_info, h, e, s, v)
 
         module _ {sizes : Calibration} (v : from (leb 64 n) (voxels o f block) uncalibrated ≡ accepted sizes) where
-          pub cz_channel : {row : List ℕ} → from (leb 112 n) (channel_block o f block) none ≡ refused row → refused row ≡ cz_info o f block declared
+          pub cz_channel : {row : List ℕ} → from (leb 112 n) (channel_block o f block) None ≡ refused row → refused row ≡ cz_info o f block declared
           unfolding cz_info bind
           cz_channel c = rw (cz_info, h, e, s, v, c)
 
-          module _ {colors : Option ℕ} (c : from (leb 112 n) (channel_block o f block) none ≡ accepted colors) where
+          module _ {colors : Option ℕ} (c : from (leb 112 n) (channel_block o f block) None ≡ accepted colors) where
             pub cz_shots : {row : List ℕ} → from (leb 272 n) (shots o f block) (pos 1, pos 1) ≡ refused row → refused row ≡ cz_info o f block declared
             unfolding cz_info bind
             cz_shots p = rw (cz_info, h, e, s, v, c, p)

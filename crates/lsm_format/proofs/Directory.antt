@@ -4,7 +4,7 @@ use native.Mathlib.Nat.{mul-suc, mul-zero, zero-mul}
 use native.Mathlib.Omega.{arith}
 use mathlib.Core.Bool.{Bool, true, false, not, ◌&&◌, ◌||◌, cond}
 use mathlib.Core.Logic.{◌⊎◌, inl, inr}
-use mathlib.Core.Option.{Option, none, some}
+use Rattle.std.specs.Prelude.{Option, None, Some}
 use mathlib.Core.Path.{◌≡◌, refl, sym, ap, fun_ext, ◌∙◌}
 use mathlib.Core.List.{List, [], ◌∷◌}
 use lib.Dec.{leb, eqb, T, leb→le, lit≤}
@@ -33,7 +33,7 @@ among_above t b (m ∷ ms) h k = by (leb m b) (leb→le m b) (λ r. among_above 
     by false q rest h = absurd h
 
 -- codes above 12, and 0, are no types
-pub type_above : (t : ℕ) → 12 < t → (type_size t ≡ 0) × (integer_size t ≡ none)
+pub type_above : (t : ℕ) → 12 < t → (type_size t ≡ 0) × (integer_size t ≡ None)
 unfolding type_size integer_size
 type_above t h = (
   rw (among_above t 12 (1 ∷ 2 ∷ 6 ∷ 7 ∷ []) tt h, among_above t 12 (3 ∷ 8 ∷ []) tt h, among_above t 12 (4 ∷ 9 ∷ 11 ∷ []) tt h, among_above t 12 (5 ∷ 10 ∷ 12 ∷ []) tt h),
@@ -54,7 +54,7 @@ type_one (suc (suc (suc (suc (suc (suc (suc zero))))))) l h x y z = refl
 type_one (suc (suc (suc (suc (suc (suc (suc (suc n)))))))) l h x y z = absurd (omega arith)
 
 -- the codes that are read as no number: below 6 those that are none of 1, 3 and 4, from 8 on those that are none of 8, 9 and 11
-pub integer_low : (t : ℕ) → t < 6 → (t ≡ 1 → ⊥) → (t ≡ 3 → ⊥) → (t ≡ 4 → ⊥) → none ≡ integer_size t
+pub integer_low : (t : ℕ) → t < 6 → (t ≡ 1 → ⊥) → (t ≡ 3 → ⊥) → (t ≡ 4 → ⊥) → None ≡ integer_size t
 unfolding integer_size type_size
 integer_low zero h x y z = refl
 integer_low (suc zero) h x y z = absurd (x refl)
@@ -64,7 +64,7 @@ integer_low (suc (suc (suc (suc zero)))) h x y z = absurd (z refl)
 integer_low (suc (suc (suc (suc (suc zero))))) h x y z = refl
 integer_low (suc (suc (suc (suc (suc (suc n)))))) h x y z = absurd (omega arith)
 
-pub integer_high : (t : ℕ) → 8 ≤ t → (t ≡ 8 → ⊥) → (t ≡ 9 → ⊥) → (t ≡ 11 → ⊥) → none ≡ integer_size t
+pub integer_high : (t : ℕ) → 8 ≤ t → (t ≡ 8 → ⊥) → (t ≡ 9 → ⊥) → (t ≡ 11 → ⊥) → None ≡ integer_size t
 unfolding integer_size type_size
 integer_high zero h x y z = absurd (omega arith)
 integer_high (suc zero) h x y z = absurd (omega arith)
@@ -82,7 +82,7 @@ integer_high (suc (suc (suc (suc (suc (suc (suc (suc (suc (suc (suc (suc zero)))
 integer_high (suc (suc (suc (suc (suc (suc (suc (suc (suc (suc (suc (suc (suc n))))))))))))) h x y z = sym (type_above (suc (suc (suc (suc (suc (suc (suc (suc (suc (suc (suc (suc (suc n))))))))))))) (omega arith)).1
 
 -- 6 and 7 are read as one byte
-pub integer_one : (t : ℕ) → 6 ≤ t → t < 8 → some 1 ≡ integer_size t
+pub integer_one : (t : ℕ) → 6 ≤ t → t < 8 → Some 1 ≡ integer_size t
 unfolding integer_size type_size
 integer_one zero l h = absurd (omega arith)
 integer_one (suc zero) l h = absurd (omega arith)
@@ -107,19 +107,19 @@ place_by_offset o f size count p r h e = rw (lt-leb (size * count) 4 h) (sym e)
 -- ---- values one after another
 
 -- a type that is read as a number has its own bytes
-pub integer_size_lem : (t size : ℕ) → integer_size t ≡ some size → type_size t ≡ size
+pub integer_size_lem : (t size : ℕ) → integer_size t ≡ Some size → type_size t ≡ size
 unfolding integer_size
 integer_size_lem t size i = by (among t (1 ∷ 3 ∷ 4 ∷ 6 ∷ 7 ∷ 8 ∷ 9 ∷ 11 ∷ [])) i
   where
-    by : (b : Bool) → cond b (some (type_size t)) none ≡ some size → type_size t ≡ size
+    by : (b : Bool) → cond b (Some (type_size t)) None ≡ Some size → type_size t ≡ size
     by true e = ap (or 0) e
       where
         or : ℕ → Option ℕ → ℕ
-        or n none = n
-        or n (some m) = m
+        or n None = n
+        or n (Some m) = m
     by false e = no_case cc
 
-module _ (n type size : ℕ) (o : Order) (f : List ℕ) (p : ℕ) (i : integer_size type ≡ some size) where
+module _ (n type size : ℕ) (o : Order) (f : List ℕ) (p : ℕ) (i : integer_size type ≡ Some size) where
   pub values_next : (v : ℕ) → number_at size o f p ≡ accepted v → values_at (suc n) type o f p ≡ bind (values_at n type o f (p + size)) (λ vs. accepted (v ∷ vs))
   unfolding values_at value_at bind
   values_next v h = rw (i, h, integer_size_lem type size i)
@@ -129,7 +129,7 @@ module _ (n type size : ℕ) (o : Order) (f : List ℕ) (p : ℕ) (i : integer_s
   values_stop row h = rw (i, h)
 
 -- values that pass the end are 1, whatever the bytes before it
-past_by : (k : ℕ) (b : Bool) (type size : ℕ) (o : Order) (e : List ℕ) (p : ℕ) → integer_size type ≡ some size → leb (p + size) (length e) ≡ b →
+past_by : (k : ℕ) (b : Bool) (type size : ℕ) (o : Order) (e : List ℕ) (p : ℕ) → integer_size type ≡ Some size → leb (p + size) (length e) ≡ b →
     length e < p + size * suc k → values_at (suc k) type o e p ≡ refused parse
 unfolding bind
 past_by zero true type size o e p i t h =
@@ -141,7 +141,7 @@ past_by (suc k) true type size o e p i t h =
     ∙ rw (past_by k (leb (p + size + size) (length e)) type size o e (p + size) i refl (omega (arith, mul-suc size (suc k))))
 past_by (suc k) false type size o e p i t h = values_stop (suc k) type size o e p i parse (number_past size o e p (leb-false _ _ t))
 
-pub values_past : (k type size : ℕ) (o : Order) (f : List ℕ) (p : ℕ) → integer_size type ≡ some size → length f < p + size * suc k →
+pub values_past : (k type size : ℕ) (o : Order) (f : List ℕ) (p : ℕ) → integer_size type ≡ Some size → length f < p + size * suc k →
     values_at (suc k) type o f p ≡ refused parse
 values_past k type size o f p i h = past_by k (leb (p + size) (length f)) type size o f p i refl h
 
@@ -175,7 +175,7 @@ module _ (o : Order) (f : List ℕ) (type count place : ℕ) where
       by false t = rw (t, e)
 
   -- a type that is no number: by its size, its count, or the type itself
-  pub scalar_no_number : (p : ℕ) → value_place o f (type_size type) count place ≡ accepted p → integer_size type ≡ none →
+  pub scalar_no_number : (p : ℕ) → value_place o f (type_size type) count place ≡ accepted p → integer_size type ≡ None →
       refused decode ≡ scalar o f type count place
   unfolding scalar scalar_values entry_values value_at bind
   scalar_no_number p e i = by (eqb (type_size type) 0) (eqb count 0) refl refl
@@ -186,7 +186,7 @@ module _ (o : Order) (f : List ℕ) (type count place : ℕ) where
       by false false t n = rw (t, e, n, i)
 
   -- one that is read as a number of `size` bytes
-  module _ (size : ℕ) (i : integer_size type ≡ some size) (z : size ≡ 0 → ⊥) where
+  module _ (size : ℕ) (i : integer_size type ≡ Some size) (z : size ≡ 0 → ⊥) where
     pub scalar_no_count : count ≡ 0 → refused decode ≡ scalar o f type count place
     unfolding scalar scalar_values entry_values bind
     scalar_no_count n =

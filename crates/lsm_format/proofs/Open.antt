@@ -2,7 +2,7 @@
 use Prim.Native.Nat.{ℕ, zero, suc, ◌+◌, ◌*◌, ◌<◌}
 use native.Mathlib.Omega.{arith}
 use mathlib.Core.Bool.{Bool, true, false, beq}
-use mathlib.Core.Option.{Option, none, some}
+use Rattle.std.specs.Prelude.{Option, None, Some}
 use mathlib.Core.Path.{◌≡◌, refl}
 use mathlib.Core.List.{List, [], ◌∷◌, ◌++◌, append_assoc}
 use lib.Dec.{eqb}
@@ -39,7 +39,7 @@ same_flag : (b : Bool) → beq b b ≡ true
 same_flag true = refl
 same_flag false = refl
 
-pub agrees_self : (d : Directory) → agrees_with (some d) d ≡ accepted tt
+pub agrees_self : (d : Directory) → agrees_with (Some d) d ≡ accepted tt
 unfolding bind
 agrees_self d = rw (same_on_self geometry d, same_flag (planar d), eq-eqb (length d.offsets) (length d.offsets) refl)
 
@@ -54,11 +54,11 @@ module _ (first : Option Directory) (d : Directory) where
     agrees_reduced b = rw (eq-eqb (length d.offsets) (length d.counts) e, b)
 
     module _ (b : reduced d ≡ false) where
-      pub agrees_first : first ≡ none → accepted tt ≡ agrees first d
+      pub agrees_first : first ≡ None → accepted tt ≡ agrees first d
       unfolding agrees bind
       agrees_first h = rw (eq-eqb (length d.offsets) (length d.counts) e, b, h)
 
-      pub agrees_later : (p : Directory) → first ≡ some p → (g : Bool) → g ≡ same_geometry d p → (n m : ℕ) → length d.offsets ≡ n → length p.offsets ≡ m →
+      pub agrees_later : (p : Directory) → first ≡ Some p → (g : Bool) → g ≡ same_geometry d p → (n m : ℕ) → length d.offsets ≡ n → length p.offsets ≡ m →
           bind (need unsupported g) (λ _. need decode (eqb n m)) ≡ agrees first d
       unfolding agrees bind
       agrees_later p h g same n m ns ms = rw (eq-eqb (length d.offsets) (length d.counts) e, b, h, same, ← ns, ← ms)
@@ -66,9 +66,9 @@ module _ (first : Option Directory) (d : Directory) where
 -- ---- the chain
 
 -- with nothing later, the earlier stays
-pub stays : {A : Type 0} (x : Option A) → earlier x none ≡ x
-stays none = refl
-stays (some a) = refl
+pub stays : {A : Type 0} (x : Option A) → earlier x None ≡ x
+stays None = refl
+stays (Some a) = refl
 
 -- the chain's end, and one directory too many
 chain_done : (n : ℕ) (o : Order) (f : List ℕ) (place : ℕ) (w : Walk) → chain n true o f place w ≡ accepted w

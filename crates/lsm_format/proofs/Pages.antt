@@ -4,7 +4,7 @@ use Prim.Native.Nat.{ℕ, zero, suc, ◌*◌}
 use native.Mathlib.Nat.{add-mul, one-mul, zero-mul}
 use native.Mathlib.Omega.{arith}
 use mathlib.Core.Bool.{Bool, true, false, cond}
-use mathlib.Core.Option.{Option, none, some}
+use Rattle.std.specs.Prelude.{Option, None, Some}
 use mathlib.Core.Path.{◌≡◌, refl, sym, ap, ◌∙◌}
 use mathlib.Core.List.{List, [], ◌∷◌, ◌++◌, append-nil}
 use lib.Dec.{eqb}
@@ -28,22 +28,22 @@ accepting_equal row a b =
 
 -- and as many strips as the page that it is held against
 SameStrips : Option Directory → Directory → Type 0
-SameStrips none d = Unit {0}
-SameStrips (some p) d = length d.offsets ≡ length p.offsets
+SameStrips None d = Unit {0}
+SameStrips (Some p) d = length d.offsets ≡ length p.offsets
 
 with_strips : (x : Option Directory) (d : Directory) → Accepting (λ (u : Unit {0}). SameStrips x d) (agrees_with x d)
 unfolding Accepting SameStrips
-with_strips none d = tt
-with_strips (some p) d =
+with_strips None d = tt
+with_strips (Some p) d =
     accepting_then _ (need unsupported (same_geometry d p)) _ (λ _.
     accepting_equal decode (length d.offsets) (length p.offsets))
 
 agrees_strips : (first : Option Directory) (d : Directory) →
-    Accepting (λ (u : Unit {0}). Pairs d × SameStrips (cond (reduced d) none first) d) (agrees first d)
+    Accepting (λ (u : Unit {0}). Pairs d × SameStrips (cond (reduced d) None first) d) (agrees first d)
 unfolding agrees Pairs
 agrees_strips first d =
     accepting_bind _ _ _ _ (accepting_equal decode (length d.offsets) (length d.counts)) (λ _ pairs.
-    accepting_map (λ (u : Unit {0}). SameStrips (cond (reduced d) none first) d) _ _ (λ _ s. (pairs, s)) (with_strips _ d))
+    accepting_map (λ (u : Unit {0}). SameStrips (cond (reduced d) None first) d) _ _ (λ _ s. (pairs, s)) (with_strips _ d))
 
 -- a directory that agrees has as many strip lengths as offsets
 pub agreed_arrays : (first : Option Directory) (d : Directory) → agrees first d ≡ accepted tt → length d.offsets ≡ length d.counts
@@ -52,8 +52,8 @@ agreed_arrays first d a = (accepting_told _ _ _ (agrees_strips first d) a).0
 
 -- as many words as two for each strip of the first page, on every page
 unfoldable pub Even : Option Directory → List Page → Type 0
-Even none ps = ps ≡ []
-Even (some p) ps = length (table_words ps) ≡ length ps * length p.offsets * 2
+Even None ps = ps ≡ []
+Even (Some p) ps = length (table_words ps) ≡ length ps * length p.offsets * 2
 
 even_more : (n : ℕ) (ps : List Page) (d : Directory) → Pairs d → n ≡ length d.offsets → length (table_words ps) ≡ length ps * n * 2 →
     length (table_words (ps ++ arrays_of d ∷ [])) ≡ length (ps ++ arrays_of d ∷ []) * n * 2
@@ -62,13 +62,13 @@ even_more n ps d e m h =
     let w : length (strip_words d.offsets d.counts) ≡ 2 * n = strip_words_length d.offsets d.counts e ∙ ap (λ (k : ℕ). 2 * k) (sym m) in
     rw (table_words_append ps (arrays_of d ∷ []), append-nil (strip_words d.offsets d.counts), length-append, length-append, h, w, add-mul, one-mul) (omega arith)
 
-even_by : (b : Bool) (first : Option Directory) (ps : List Page) (d : Directory) → Even first ps → Pairs d → SameStrips (cond b none first) d →
-    Even (earlier first (cond b none (some d))) (ps ++ cond b [] (arrays_of d ∷ []))
+even_by : (b : Bool) (first : Option Directory) (ps : List Page) (d : Directory) → Even first ps → Pairs d → SameStrips (cond b None first) d →
+    Even (earlier first (cond b None (Some d))) (ps ++ cond b [] (arrays_of d ∷ []))
 unfolding Even SameStrips
-even_by true none ps d e p s = rw append-nil e
-even_by true (some q) ps d e p s = rw append-nil e
-even_by false none ps d e p s = rw e (even_more (length d.offsets) [] d p refl (sym (rw (zero-mul, zero-mul))))
-even_by false (some q) ps d e p s = even_more (length q.offsets) ps d p (sym s) e
+even_by true None ps d e p s = rw append-nil e
+even_by true (Some q) ps d e p s = rw append-nil e
+even_by false None ps d e p s = rw e (even_more (length d.offsets) [] d p refl (sym (rw (zero-mul, zero-mul))))
+even_by false (Some q) ps d e p s = even_more (length q.offsets) ps d p (sym s) e
 
 join_even : (w : Walk) (d : Directory) → Even w.first w.pages → Accepting (λ (v : Walk). Even v.first v.pages) (join w d)
 unfolding join Accepting

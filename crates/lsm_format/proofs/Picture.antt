@@ -5,7 +5,7 @@ use native.Mathlib.Numerals.{add-one}
 use native.Mathlib.Omega.{arith}
 use mathlib.Core.Path.{◌≡◌, refl, sym, ap, ◌∙◌}
 use mathlib.Core.Bool.{Bool, true, false, not, ◌&&◌, and-false}
-use mathlib.Core.Option.{Option, none, some}
+use Rattle.std.specs.Prelude.{Option, None, Some}
 use mathlib.Core.List.{List, [], ◌∷◌, ◌++◌, append_assoc, append-nil}
 use lib.Dec.{leb, ltb, eqb}
 use lib.ListN.{length, get_or, take, drop, length-append, get_or-append}
@@ -312,9 +312,9 @@ module _ (outside miscounted t : List ℕ) (len : ℕ) where
 
 -- ---- a rule's steps, from its answer
 
-pub given_some : {A : Type 0} (row : List ℕ) (o : Option A) (a : A) → given row o ≡ accepted a → o ≡ some a
-given_some row (some b) a e = cc
-given_some row none a e = no_case cc
+pub given_some : {A : Type 0} (row : List ℕ) (o : Option A) (a : A) → given row o ≡ accepted a → o ≡ Some a
+given_some row (Some b) a e = cc
+given_some row None a e = no_case cc
 
 pub need_true : (row : List ℕ) (b : Bool) (u : Unit {0}) → need row b ≡ accepted u → b ≡ true
 need_true row true u e = refl
@@ -332,7 +332,7 @@ module _ (w h : ℕ) (k : Kind) where
   pub size_fits : picture_bytes w h k ≤ picture_limit → picture_size w h k ≡ accepted (picture_bytes w h k)
   unfolding picture_size unlimited_size bind
   size_fits l =
-      let f : word (picture_bytes w h k) ≡ some (picture_bytes w h k) = word_fits (omega arith) in
+      let f : word (picture_bytes w h k) ≡ Some (picture_bytes w h k) = word_fits (omega arith) in
       rw (f, le-leb (picture_bytes w h k) picture_limit l)
 
   pub size_is : (n : ℕ) → picture_size w h k ≡ accepted n → (n ≡ picture_bytes w h k) × (n ≤ picture_limit)
@@ -399,23 +399,23 @@ channel_in_lem d words page c h l =
     omega (arith, suc-mul c d.strips_per_channel, mul-le-mul_right d.strips_per_channel h)
 
 module _ (d : Description) (words : ℕ) (co : Coordinate) where
-  pub channel_nowhere : page_of d.layout co ≡ none → refused (no_picture co) ≡ channel_strips d words co
+  pub channel_nowhere : page_of d.layout co ≡ None → refused (no_picture co) ≡ channel_strips d words co
   unfolding channel_strips bind
   channel_nowhere e = rw (e, channel_strips, bind)
 
-  pub channel_missing : (page : ℕ) → page_of d.layout co ≡ some page → has_page d words page ≡ false
+  pub channel_missing : (page : ℕ) → page_of d.layout co ≡ Some page → has_page d words page ≡ false
       → refused (no_picture co) ≡ channel_strips d words co
   unfolding channel_strips bind
   channel_missing page e h = rw (e, channel_strips, bind) (rw (h, bind))
 
-  pub channel_at : (page : ℕ) → page_of d.layout co ≡ some page → has_page d words page ≡ true
+  pub channel_at : (page : ℕ) → page_of d.layout co ≡ Some page → has_page d words page ≡ true
       → accepted (strips_on d page co.c) ≡ channel_strips d words co
   unfolding channel_strips bind
   channel_at page e h = rw (e, channel_strips, bind) (rw (h, bind))
 
   -- the strips that are there are those of the channel of a page that the table has
   pub channel_page : {C : Type 0} (s : Strips) → channel_strips d words co ≡ accepted s
-      → ((page : ℕ) → page_of d.layout co ≡ some page → has_page d words page ≡ true → strips_on d page co.c ≡ s → C) → C
+      → ((page : ℕ) → page_of d.layout co ≡ Some page → has_page d words page ≡ true → strips_on d page co.c ≡ s → C) → C
   unfolding channel_strips
   channel_page s e go =
       bind_then (given (no_picture co) (page_of d.layout co)) _ s e

@@ -4,7 +4,7 @@ use native.Mathlib.Nat.{zero-mul, add-mul, suc-mul, mul_comm, mul_assoc, mul-le-
 use native.Mathlib.Omega.{arith}
 use mathlib.Core.Path.{◌≡◌, refl, sym, ap, ◌∙◌}
 use mathlib.Core.Bool.{Bool, true, false, not, ◌&&◌, ◌||◌}
-use mathlib.Core.Option.{some}
+use Rattle.std.specs.Prelude.{Some}
 use mathlib.Core.List.{List}
 use lib.Dec.{leb, ltb, eqb}
 use lib.ListN.{length, length-reverse}
@@ -53,7 +53,7 @@ whole_bytes d t s w =
 
 -- what the whole-row test tells where it says yes: rows have bytes and fit the machine, and all pages hold whole rows
 pub record WholeRows (d : Description) (t : List ℕ) : Type 0 where
-  pub some : 0 < row_bytes d
+  pub Some : 0 < row_bytes d
   pub fits : row_bytes d < 2 ^ 64
   pub all : whole_pages d t (pages d.layout) ≡ true
 
@@ -65,7 +65,7 @@ whole_rows_lem d t e =
     let a = both_hold (not (eqb (row_bytes d) 0)) (ltb (row_bytes d) (2 ^ 64) && (few && all)) e in
     let b = both_hold (ltb (row_bytes d) (2 ^ 64)) (few && all) a.1 in
     let n = eqb-false (row_bytes d) 0 (not-true _ a.0) in
-    record { some = omega arith; fits = ltb-true _ _ b.0; all = (both_hold few all b.1).1 }
+    record { Some = omega arith; fits = ltb-true _ _ b.0; all = (both_hold few all b.1).1 }
 
 -- the last of the numbers below suc m, or one before it
 pub below : {C : Type 0} (k m : ℕ) → k < suc m → (k < m → C) → (k ≡ m → C) → C
@@ -176,7 +176,7 @@ module _ (d : Description) (t : List ℕ) (len : ℕ) (co : Coordinate) (r : Rec
     judged_alike s q h = rw (part_size, e, h, reaches s q, turn_total decode decode t len s.first s.count size q)
 
     -- those of a page of the test do
-    tested_made : whole_rows d t ≡ true → co.c < d.dims.c → ((page : ℕ) → page_of d.layout co ≡ some page → page < pages d.layout)
+    tested_made : whole_rows d t ≡ true → co.c < d.dims.c → ((page : ℕ) → page_of d.layout co ≡ Some page → page < pages d.layout)
         → (s : Strips) → channel_strips d (length t) co ≡ accepted s → total t s.first s.count ≡ size
     tested_made w k tested s h =
         channel_page d (length t) co s h
@@ -186,18 +186,18 @@ module _ (d : Description) (t : List ℕ) (len : ℕ) (co : Coordinate) (r : Rec
         whole_bytes d t s whole ∙ sym (size_rows d.dims.x d.dims.y (sample_size d.kind)) ∙ sym z.0)
 
     tested_by : (m : Result Strips) → channel_strips d (length t) co ≡ m → whole_rows d t ≡ true → co.c < d.dims.c
-        → ((page : ℕ) → page_of d.layout co ≡ some page → page < pages d.layout) → window_strips d t len co r ≡ plane_strips d t len co
+        → ((page : ℕ) → page_of d.layout co ≡ Some page → page < pages d.layout) → window_strips d t len co r ≡ plane_strips d t len co
     unfolding window_strips row_strips bind
     tested_by (accepted s) h w k tested = judged_alike s (tested_made w k tested s h) h
     tested_by (refused row) h w k tested = rw (part_size, h) (strips_nowhere d t len co size row e h)
 
-    region_by_lem : (b : Bool) → whole_rows d t ≡ b → co.c < d.dims.c → ((page : ℕ) → page_of d.layout co ≡ some page → page < pages d.layout)
+    region_by_lem : (b : Bool) → whole_rows d t ≡ b → co.c < d.dims.c → ((page : ℕ) → page_of d.layout co ≡ Some page → page < pages d.layout)
         → strips_by b d t len co r ≡ plane_strips d t len co
     region_by_lem true w k tested = tested_by (channel_strips d (length t) co) refl w k tested
     region_by_lem false w k tested = refl
 
     -- a rectangle of a page of the test is decided by plane's checks
-    pub region_plane : co.c < d.dims.c → ((page : ℕ) → page_of d.layout co ≡ some page → page < pages d.layout)
+    pub region_plane : co.c < d.dims.c → ((page : ℕ) → page_of d.layout co ≡ Some page → page < pages d.layout)
         → region_strips d t len co r ≡ plane_strips d t len co
     unfolding region_strips
     region_plane k tested = region_by_lem (whole_rows d t) refl k tested

@@ -3,7 +3,7 @@ use Prim.Native.Nat.{ℕ, ◌+◌, ◌*◌, ◌≤◌, ◌<◌, max}
 use native.Mathlib.Omega.{arith}
 use mathlib.Core.Bool.{Bool, true, false}
 use mathlib.Core.Path.{◌≡◌, refl, sym, ◌∙◌}
-use mathlib.Core.Option.{none, some}
+use Rattle.std.specs.Prelude.{None, Some}
 use lib.IntN.{ℤ, pos, negsuc, nat_abs}
 use lib.Signed.{lt_z, non_neg}
 use lib.Dec.{T, ltb}
@@ -41,7 +41,7 @@ module _ (p m : ℤ) (t depth : ℕ) where
 
 -- the page of a picture: no such scene; pages before it, or a page, whose number overflows; the page
 module _ (l : Layout) (co : Coordinate) where
-  pub page_outside : l.scenes ≤ co.scene → none ≡ page_of l co
+  pub page_outside : l.scenes ≤ co.scene → None ≡ page_of l co
   unfolding page_of
   page_outside h = rw (le-ltb co.scene l.scenes h, page_of)
 
@@ -49,21 +49,21 @@ module _ (l : Layout) (co : Coordinate) where
   unfolding page_of
   page_inside h = rw (lt-ltb co.scene l.scenes h, page_of)
 
-  pub page_over : co.scene < l.scenes → word ((co.scene * l.t + co.t) * l.depth) ≡ none → none ≡ page_of l co
+  pub page_over : co.scene < l.scenes → word ((co.scene * l.t + co.t) * l.depth) ≡ None → None ≡ page_of l co
   page_over h e = rw (page_inside h) (sym (word_over (omega (arith, word_none _ e))))
 
-  pub page_at : co.scene < l.scenes → (first : ℕ) → word ((co.scene * l.t + co.t) * l.depth) ≡ some first →
+  pub page_at : co.scene < l.scenes → (first : ℕ) → word ((co.scene * l.t + co.t) * l.depth) ≡ Some first →
       word (first + co.z) ≡ page_of l co
   page_at h first e = rw (page_inside h, (word_some _ _ e).0)
 
   -- a page that there is
-  page_by : (b : Bool) (page : ℕ) → ltb co.scene l.scenes ≡ b → page_of l co ≡ some page → (co.scene < l.scenes) × (page ≡ page_number l co)
+  page_by : (b : Bool) (page : ℕ) → ltb co.scene l.scenes ≡ b → page_of l co ≡ Some page → (co.scene < l.scenes) × (page ≡ page_number l co)
   page_by true page t e =
       let h : co.scene < l.scenes = ltb-true _ _ t in
       (h, (word_some _ _ (sym (page_inside h) ∙ e)).0)
   page_by false page t e =
-      let n : none ≡ page_of l co = page_outside (ltb-false _ _ t) in
+      let n : None ≡ page_of l co = page_outside (ltb-false _ _ t) in
       no_case cc
 
-  pub page_some : (page : ℕ) → page_of l co ≡ some page → (co.scene < l.scenes) × (page ≡ page_number l co)
+  pub page_some : (page : ℕ) → page_of l co ≡ Some page → (co.scene < l.scenes) × (page ≡ page_number l co)
   page_some page e = page_by (ltb co.scene l.scenes) page refl e

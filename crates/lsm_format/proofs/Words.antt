@@ -5,51 +5,39 @@ use native.Mathlib.Nat.{le-div_iff_mul-le, div-lt_iff_lt-mul, le-mul_of_pos_righ
 use native.Mathlib.Omega.{arith}
 use mathlib.Core.Bool.{Bool, true, false}
 use mathlib.Core.Path.{◌≡◌, refl}
-use mathlib.Core.Option.{none, some}
+use Rattle.std.specs.Prelude.{None, Some}
 use lib.Dec.{ltb}
 use borrow.Author.Tests.{lt-ltb, le-ltb, ltb-true, ltb-false}
 use Rattle.lsm_format.specs.Words.{word}
-use Rattle.lsm_format.specs.Code.{word_of}
-use Rattle.lsm_format.specs.declared.checked.Word.{Word}
-use Rattle.lsm_format.specs.declared.checked.Word.TheVariants.{Value, Overflow}
-use Rattle.lsm_format.proofs.Told.{told}
 use Rattle.lsm_format.proofs.Apart.{no_case}
 
-pub word_fits : {n : ℕ} → n < 2 ^ 64 → word n ≡ some n
+pub word_fits : {n : ℕ} → n < 2 ^ 64 → word n ≡ Some n
 unfolding word
 word_fits {n} h = rw (lt-ltb n (2 ^ 64) h, word)
 
-pub word_over : {n : ℕ} → 2 ^ 64 ≤ n → word n ≡ none
+pub word_over : {n : ℕ} → 2 ^ 64 ≤ n → word n ≡ None
 unfolding word
 word_over {n} h = rw (le-ltb n (2 ^ 64) h, word)
 
 -- ---- the way back
 
-some_by : (n x : ℕ) (b : Bool) → ltb n (2 ^ 64) ≡ b → word n ≡ some x → (x ≡ n) × (n < 2 ^ 64)
-some_by n x true t e = let f : word n ≡ some n = word_fits (ltb-true n (2 ^ 64) t) in (cc, ltb-true n (2 ^ 64) t)
+some_by : (n x : ℕ) (b : Bool) → ltb n (2 ^ 64) ≡ b → word n ≡ Some x → (x ≡ n) × (n < 2 ^ 64)
+some_by n x true t e = let f : word n ≡ Some n = word_fits (ltb-true n (2 ^ 64) t) in (cc, ltb-true n (2 ^ 64) t)
 some_by n x false t e =
-    let f : word n ≡ none = word_over (ltb-false n (2 ^ 64) t) in
+    let f : word n ≡ None = word_over (ltb-false n (2 ^ 64) t) in
     no_case cc
 
-pub word_some : (n x : ℕ) → word n ≡ some x → (x ≡ n) × (n < 2 ^ 64)
+pub word_some : (n x : ℕ) → word n ≡ Some x → (x ≡ n) × (n < 2 ^ 64)
 word_some n x e = some_by n x (ltb n (2 ^ 64)) refl e
 
-none_by : (n : ℕ) (b : Bool) → ltb n (2 ^ 64) ≡ b → word n ≡ none → 2 ^ 64 ≤ n
+none_by : (n : ℕ) (b : Bool) → ltb n (2 ^ 64) ≡ b → word n ≡ None → 2 ^ 64 ≤ n
 none_by n true t e =
-    let f : word n ≡ some n = word_fits (ltb-true n (2 ^ 64) t) in
+    let f : word n ≡ Some n = word_fits (ltb-true n (2 ^ 64) t) in
     no_case cc
 none_by n false t e = ltb-false n (2 ^ 64) t
 
-pub word_none : (n : ℕ) → word n ≡ none → 2 ^ 64 ≤ n
+pub word_none : (n : ℕ) → word n ≡ None → 2 ^ 64 ≤ n
 word_none n e = none_by n (ltb n (2 ^ 64)) refl e
-
--- ---- what the code's answer tells
-
-pub told_value : {r : Word} {x : ℕ} (n : ℕ) → word_of r ≡ word n → r ≡ Value x → word n ≡ some x
-told_value n e v = told word_of e v
-
-pub told_overflow : {r : Word} (n : ℕ) → word_of r ≡ word n → r ≡ Overflow → word n ≡ none
-told_overflow n e v = told word_of e v
 
 -- ---- products
 
@@ -64,11 +52,11 @@ product_over a b p h = omega (arith, (div-lt_iff_lt-mul {k = b} {x = 2 ^ 64 - 1}
 pub product_stays : (n k : ℕ) → 0 < k → 2 ^ 64 ≤ n → 2 ^ 64 ≤ n * k
 product_stays n k p h = omega (arith, le-mul_of_pos_right n p)
 
-pub product_none : (n k : ℕ) → 0 < k → word n ≡ none → word (n * k) ≡ none
+pub product_none : (n k : ℕ) → 0 < k → word n ≡ None → word (n * k) ≡ None
 product_none n k p e = word_over (product_stays n k p (word_none n e))
 
 -- and a number that overflows, with every number added
-pub sum_none : (n k : ℕ) → word n ≡ none → word (n + k) ≡ none
+pub sum_none : (n k : ℕ) → word n ≡ None → word (n + k) ≡ None
 sum_none n k e = word_over (omega (arith, word_none n e))
 
 -- a product of two numbers of 32 bits fits

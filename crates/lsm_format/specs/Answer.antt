@@ -1,6 +1,5 @@
 -- What a rule answers: a value, or one of document 01's numbered refusals.
-use Rattle.std.specs.Prelude.{ℕ, Bool, true, false, List, [], ◌∷◌}
-use Rattle.std.proofs.Math.Option.{Option, none, some}
+use Rattle.std.specs.Prelude.{ℕ, Bool, true, false, List, [], ◌∷◌, Option, None, Some}
 
 -- A refusal is a row of document 01's table "Returned, When, Left in lent memory": its number, then its values in the
 -- table's order.
@@ -20,8 +19,8 @@ need row false = refused row
 
 -- A value that may be absent: refuse with the row where it is.
 abbrev pub given : {A : Type 0} → List ℕ → Option A → Result A
-given row (some a) = accepted a
-given row none = refused row
+given row (Some a) = accepted a
+given row None = refused row
 
 -- ---- the table, row by row
 

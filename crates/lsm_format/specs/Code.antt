@@ -1,29 +1,20 @@
 -- What the code's types mean in the definitions' terms. For each enum that a function answers, its document 01 number and
 -- values, or its value.
-use Rattle.std.specs.Prelude.{ℕ, ◌-◌, ◌≡◌, List, ◌++◌, length, replicate}
-use Rattle.std.proofs.Math.Option.{Option, none, some}
+use Rattle.std.specs.Prelude.{ℕ, ◌-◌, ◌≡◌, List, ◌++◌, length, replicate, Result as Answered, Ok, Err}
 use Rattle.lsm_format.specs.Answer.{Result, accepted, refused, parse, decode, unsupported, oversized_allocation, scene_out_of_range, out_of_range, too_short}
 use Rattle.lsm_format.specs.Numbers.{Order, little, big}
 use Rattle.lsm_format.specs.Sizes.{Kind, u8, u16, i16, f32}
 use Rattle.lsm_format.specs.Rectangle as Rule
 use Rattle.lsm_format.specs.Rectangle.{Dims, Rect}
-use Rattle.lsm_format.specs.declared.checked.Word.{Word}
-use Rattle.lsm_format.specs.declared.checked.Word.TheVariants.{Value, Overflow}
 use Rattle.lsm_format.specs.declared.error.Refusal.{Refusal}
 use Rattle.lsm_format.specs.declared.error.Refusal.TheVariants.{Parse, Decode, Unsupported, OversizedAllocation, SceneOutOfRange, OutOfRange, TooShort}
 use Rattle.lsm_format.specs.declared.types.Endian.{Endian}
 use Rattle.lsm_format.specs.declared.types.Endian.TheVariants.{Little, Big}
 use Rattle.lsm_format.specs.declared.types.DType.{DType}
 use Rattle.lsm_format.specs.declared.types.DType.TheVariants.{U8, U16, I16, F32}
-use Rattle.lsm_format.specs.declared.types.ChannelBlock.{ChannelBlock}
-use Rattle.lsm_format.specs.declared.types.ChannelBlock.TheVariants.{Absent, At}
 use Rattle.lsm_format.specs.declared.types.Dims5.{Dims5}
 use Rattle.lsm_format.specs.declared.types.PixelRect.{PixelRect}
 use Rattle.lsm_format.specs.declared.types.Coordinate.{Coordinate}
-use Rattle.lsm_format.specs.declared.types.PlaneBytes.{PlaneBytes}
-use Rattle.lsm_format.specs.declared.types.PlaneBytes.TheVariants.{Bytes, Refused}
-use Rattle.lsm_format.specs.declared.error.Check.{Check}
-use Rattle.lsm_format.specs.declared.error.Check.TheVariants.{Accepted, Refused as RefusedCheck}
 
 -- document 01's table
 abbrev pub row_of : Refusal → List ℕ
@@ -59,18 +50,12 @@ rect_of r = record { x = r.x; y = r.y; w = r.w; h = r.h }
 abbrev pub coordinate_of : Coordinate → Rule.Coordinate
 coordinate_of co = record { scene = co.scene; t = co.t; c = co.c; z = co.z }
 
-abbrev pub block_of : ChannelBlock → Option ℕ
-block_of Absent = none
-block_of (At place) = some place
+-- What an answer of the code means: what it accepted, by its own meaning, or the refusal's row.
+abbrev pub answer_by : {A B : Type 0} → (A → B) → Answered A Refusal → Result B
+answer_by meant (Ok a) = accepted (meant a)
+answer_by meant (Err r) = refused (row_of r)
 
-abbrev pub word_of : Word → Option ℕ
-word_of (Value n) = some n
-word_of Overflow = none
-
-abbrev pub bytes_of : PlaneBytes → Result ℕ
-bytes_of (Bytes n) = accepted n
-bytes_of (Refused r) = refused (row_of r)
-
-abbrev pub check_of : Check → Result (Unit {0})
-check_of Accepted = accepted tt
-check_of (RefusedCheck r) = refused (row_of r)
+-- The same, where what it accepted means itself.
+abbrev pub answer_of : {A : Type 0} → Answered A Refusal → Result A
+answer_of (Ok a) = accepted a
+answer_of (Err r) = refused (row_of r)

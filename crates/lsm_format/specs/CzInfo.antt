@@ -1,6 +1,5 @@
 -- The CZ-LSM-Info block (lsm_cz_info.rs; CZ-LSMINFO, whose field names stand beside the offsets).
-use Rattle.std.specs.Prelude.{ℕ, zero, suc, ◌+◌, ◌-◌, min, Bool, true, false, ◌&&◌, List, leb, eqb, ℤ, pos, negsuc, length}
-use Rattle.std.proofs.Math.Option.{Option, none, some}
+use Rattle.std.specs.Prelude.{ℕ, zero, suc, ◌+◌, ◌-◌, min, Bool, true, false, ◌&&◌, List, leb, eqb, ℤ, pos, negsuc, length, Option, None, Some}
 use Rattle.lsm_format.specs.Answer.{Result, accepted, bind, need, decode, unsupported}
 use Rattle.lsm_format.specs.Ranges.{Ranges, nothing, at, both, over, in_file}
 use Rattle.lsm_format.specs.Numbers.{Order, i32_at, f64_bits_at}
@@ -86,9 +85,9 @@ voxels o f block =
 
 -- "the channel block's offset (≤ 0 is none)"
 abbrev pub block_place : ℤ → Option ℕ
-block_place (pos zero) = none
-block_place (pos (suc n)) = some (suc n)
-block_place (negsuc n) = none
+block_place (pos zero) = None
+block_place (pos (suc n)) = Some (suc n)
+block_place (negsuc n) = None
 
 -- "from 112 the channel block's offset": OffsetChannelColors at 108.
 unfoldable pub channel_block : Order → List ℕ → ℕ → Result (Option ℕ)
@@ -110,7 +109,7 @@ cz_info o f block declared =
     bind (extents o f block) (λ d.
     bind (need unsupported (stated d)) (λ _.
     bind (from (leb 64 n) (voxels o f block) uncalibrated) (λ sizes.
-    bind (from (leb 112 n) (channel_block o f block) none) (λ colors.
+    bind (from (leb 112 n) (channel_block o f block) None) (λ colors.
     bind (from (leb 272 n) (shots o f block) (pos 1, pos 1)) (λ pm.
     accepted (record {
       dim_x = size d.x;

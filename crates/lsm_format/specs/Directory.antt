@@ -1,6 +1,5 @@
 -- One image file directory (lsm_reader.rs, parse_ifd; TIFF 6.0, section 2, "Image File Directory").
-use Rattle.std.specs.Prelude.{ℕ, zero, suc, ◌+◌, ◌*◌, ◌/◌, ◌%◌, Bool, true, false, not, ◌||◌, cond, List, [], ◌∷◌, leb, ltb, eqb}
-use Rattle.std.proofs.Math.Option.{Option, none, some}
+use Rattle.std.specs.Prelude.{ℕ, zero, suc, ◌+◌, ◌*◌, ◌/◌, ◌%◌, Bool, true, false, not, ◌||◌, cond, List, [], ◌∷◌, leb, ltb, eqb, Option, None, Some}
 use Rattle.lsm_format.specs.Answer.{Result, accepted, bind, need, given, decode}
 use Rattle.lsm_format.specs.Ranges.{Ranges, nothing, both, over, in_file}
 use Rattle.lsm_format.specs.Numbers.{Order, number_at, u16_at, u32_at}
@@ -22,7 +21,7 @@ type_size t =
 
 -- The bytes of a type that is read as a number: "a value of a type other than 1, 3, 4, 6 to 9 or 11 [..] is Decode".
 unfoldable pub integer_size : ℕ → Option ℕ
-integer_size t = cond (among t (1 ∷ 3 ∷ 4 ∷ 6 ∷ 7 ∷ 8 ∷ 9 ∷ 11 ∷ [])) (some (type_size t)) none
+integer_size t = cond (among t (1 ∷ 3 ∷ 4 ∷ 6 ∷ 7 ∷ 8 ∷ 9 ∷ 11 ∷ [])) (Some (type_size t)) None
 
 -- ---- values
 
@@ -100,7 +99,7 @@ defaults sample_format = 1
 
 -- "Absent, [..] strip arrays empty"
 abbrev pub plain : Directory
-plain = record { scalars = defaults; offsets = []; counts = []; cz = none }
+plain = record { scalars = defaults; offsets = []; counts = []; cz = None }
 
 -- "NewSubfileType with bit 0 or 2 set marks a reduced page"
 abbrev pub is_reduced : ℕ → Bool
@@ -156,7 +155,7 @@ abbrev pub put_counts : List ℕ → Directory → Directory
 put_counts a d = record { scalars = d.scalars; offsets = d.offsets; counts = a; cz = d.cz }
 
 abbrev pub put_cz : ℕ → ℕ → Directory → Directory
-put_cz offset declared d = record { scalars = d.scalars; offsets = d.offsets; counts = d.counts; cz = some (offset, declared) }
+put_cz offset declared d = record { scalars = d.scalars; offsets = d.offsets; counts = d.counts; cz = Some (offset, declared) }
 
 -- "SamplesPerPixel, BitsPerSample, SampleFormat or Compression above 65,535, is Decode"
 abbrev pub is_short : Field → Bool

@@ -1,7 +1,6 @@
 -- Opening a file (lsm_reader.rs, read_tiff_header, parse_lsm, open; io.rs).
-use Rattle.std.specs.Prelude.{ℕ, zero, suc, ◌+◌, ◌/◌, ◌%◌, max, Bool, true, false, not, ◌&&◌, ◌||◌, cond, List, [], ◌∷◌, ◌++◌, leb, eqb, length, get_or}
+use Rattle.std.specs.Prelude.{ℕ, zero, suc, ◌+◌, ◌/◌, ◌%◌, max, Bool, true, false, not, ◌&&◌, ◌||◌, cond, List, [], ◌∷◌, ◌++◌, leb, eqb, length, get_or, Option, None, Some}
 use Rattle.std.specs.Bool.{beq}
-use Rattle.std.proofs.Math.Option.{Option, none, some}
 use Rattle.lsm_format.specs.Answer.{Result, accepted, refused, bind, need, given, parse, decode, unsupported, oversized_allocation}
 use Rattle.lsm_format.specs.Ranges.{Ranges, nothing, both, over, in_file}
 use Rattle.lsm_format.specs.Numbers.{Order, little, big, u16_at, u32_at}
@@ -47,8 +46,8 @@ same_geometry a b = same_on geometry a b && beq (planar a) (planar b)
 
 -- "agreement with the first full page (geometry 3, then strip count 2)"; with no page, nothing is asked.
 abbrev pub agrees_with : Option Directory → Directory → Result (Unit {0})
-agrees_with none d = accepted tt
-agrees_with (some p) d =
+agrees_with None d = accepted tt
+agrees_with (Some p) d =
     bind (need unsupported (same_geometry d p)) (λ _. need decode (eqb (length d.offsets) (length p.offsets)))
 
 -- What a directory whose entries are all read is held to, a line each: "equal array lengths, agreement with the first full page". A
@@ -56,7 +55,7 @@ agrees_with (some p) d =
 unfoldable pub agrees : Option Directory → Directory → Result (Unit {0})
 agrees first d =
     bind (need decode (eqb (length d.offsets) (length d.counts))) (λ _.
-    agrees_with (cond (reduced d) none first) d)
+    agrees_with (cond (reduced d) None first) d)
 
 -- ---- the chain of directories
 
@@ -73,16 +72,16 @@ pub record Walk : Type 0 where
   pub cz : Option (ℕ × ℕ)
 
 abbrev pub start : Walk
-start = record { visited = 0; first = none; pages = []; cz = none }
+start = record { visited = 0; first = None; pages = []; cz = None }
 
 -- Of two, the earlier: "the first directory that has one wins".
 abbrev pub earlier : {A : Type 0} → Option A → Option A → Option A
-earlier none later = later
-earlier (some a) later = some a
+earlier None later = later
+earlier (Some a) later = Some a
 
 -- The full page that a directory is, and its strip arrays: a reduced page "gives no picture".
 abbrev pub full_page : Directory → Option Directory
-full_page d = cond (reduced d) none (some d)
+full_page d = cond (reduced d) None (Some d)
 
 abbrev pub arrays_of : Directory → Page
 arrays_of d = record { offsets = d.offsets; counts = d.counts }
@@ -237,8 +236,8 @@ chain_ranges (suc n) false o f place w =
     (over (directory o f place) (λ d. over (join w d.0) (λ v. chain_ranges n (eqb d.1 0) o f d.1 v)))
 
 abbrev pub cz_entry_ranges : Order → List ℕ → Option (ℕ × ℕ) → Ranges
-cz_entry_ranges o f none = nothing
-cz_entry_ranges o f (some cz) = cz_ranges o f cz.0 cz.1
+cz_entry_ranges o f None = nothing
+cz_entry_ranges o f (Some cz) = cz_ranges o f cz.0 cz.1
 
 unfoldable pub walk_ranges : Order → List ℕ → Ranges
 walk_ranges o f = over (u32_at o f 4) (λ place. chain_ranges 1000000 (eqb place 0) o f place start)

@@ -1,7 +1,6 @@
 -- What `lsm-list` prints of a file ("The small file G and its printout"). A line is a list of ASCII codes; each word is written
 -- out beside its codes.
-use Rattle.std.specs.Prelude.{ℕ, zero, suc, ◌+◌, ◌/◌, ◌%◌, true, false, cond, List, [], ◌∷◌, ◌++◌, leb, ltb, eqb, Float, length}
-use Rattle.std.proofs.Math.Option.{Option, none, some}
+use Rattle.std.specs.Prelude.{ℕ, zero, suc, ◌+◌, ◌/◌, ◌%◌, true, false, cond, List, [], ◌∷◌, ◌++◌, leb, ltb, eqb, Float, length, Option, None, Some}
 use Rattle.std.specs.Float.{nan, inf, fin, binary32}
 use Rattle.std.specs.Float.Ieee.{to_bits}
 use Rattle.lsm_format.specs.Answer.{Result, accepted, refused}
@@ -101,13 +100,13 @@ channels_line channels = 99 ∷ 104 ∷ 97 ∷ 110 ∷ 110 ∷ 101 ∷ 108 ∷ 1
 
 -- "colour (6 hex digits or `-`)"
 abbrev pub color_text : Option (List ℕ) → List ℕ
-color_text none = dash
-color_text (some color) = hex_bytes color
+color_text None = dash
+color_text (Some color) = hex_bytes color
 
 -- "then `-` or `=` and the name's bytes in hex"
 abbrev pub name_text : Option (List ℕ) → List ℕ
-name_text none = dash
-name_text (some name) = 61 ∷ [] ++ hex_bytes name
+name_text None = dash
+name_text (Some name) = 61 ∷ [] ++ hex_bytes name
 
 -- "A channel is colour [..], then [..]"
 unfoldable pub channel_line : Channel → List ℕ

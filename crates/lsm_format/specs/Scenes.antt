@@ -1,6 +1,5 @@
 -- Scenes and their pages (lsm_positions.rs).
-use Rattle.std.specs.Prelude.{ℕ, ◌+◌, ◌*◌, max, true, false, ltb, ℤ, pos, negsuc}
-use Rattle.std.proofs.Math.Option.{Option, none}
+use Rattle.std.specs.Prelude.{ℕ, ◌+◌, ◌*◌, max, true, false, ltb, ℤ, pos, negsuc, Option, None}
 use Rattle.lsm_format.specs.Answer.{Result, accepted, refused, bind, given, decode}
 use Rattle.lsm_format.specs.Words.{word}
 use Rattle.lsm_format.specs.Rectangle.{Coordinate}
@@ -37,4 +36,4 @@ page_number l co = (co.scene * l.t + co.t) * l.depth + co.z
 
 -- There is none for a scene that is not there, and none where the number overflows.
 unfoldable pub page_of : Layout → Coordinate → Option ℕ
-page_of l co = elim (ltb co.scene l.scenes) [ true ↦ word (page_number l co) | false ↦ none ]
+page_of l co = elim (ltb co.scene l.scenes) [ true ↦ word (page_number l co) | false ↦ None ]

@@ -1,7 +1,6 @@
 -- Lossy decoding of UTF-8 (The Unicode Standard, chapter 3, sections 3.9 and 3.10, Table 3-7 and "U+FFFD Substitution of
 -- Maximal Subparts").
-use Rattle.std.specs.Prelude.{ℕ, zero, suc, Bool, true, false, ◌&&◌, List, [], ◌∷◌, ◌++◌, leb, eqb, length, take, drop}
-use Rattle.std.proofs.Math.Option.{Option, none, some}
+use Rattle.std.specs.Prelude.{ℕ, zero, suc, Bool, true, false, ◌&&◌, List, [], ◌∷◌, ◌++◌, leb, eqb, length, take, drop, Option, None, Some}
 
 -- A row of Table 3-7, "Well-Formed UTF-8 Byte Sequences": the range of the first byte, and the ranges of the bytes that
 -- follow it.
@@ -30,8 +29,8 @@ between r b = leb r.0 b && leb b r.1
 
 -- The row that a first byte begins, if it begins one. No byte begins two.
 abbrev pub followers_in : List Sequence → ℕ → Option (List (ℕ × ℕ))
-followers_in [] b = none
-followers_in (row ∷ rows) b = elim (between row.first b) [ true ↦ some row.followers | false ↦ followers_in rows b ]
+followers_in [] b = None
+followers_in (row ∷ rows) b = elim (between row.first b) [ true ↦ Some row.followers | false ↦ followers_in rows b ]
 
 -- How many of the bytes that follow lie in their ranges, one after another.
 abbrev pub matched : List (ℕ × ℕ) → List ℕ → ℕ
@@ -47,8 +46,8 @@ pub data Piece : Type 0 where
   subpart : ℕ → Piece
 
 abbrev pub piece_by : Option (List (ℕ × ℕ)) → List ℕ → Piece
-piece_by none bs = subpart 0
-piece_by (some rs) bs =
+piece_by None bs = subpart 0
+piece_by (Some rs) bs =
     elim (eqb (matched rs bs) (length rs)) [ true ↦ sequence (matched rs bs) | false ↦ subpart (matched rs bs) ]
 
 unfoldable pub piece : ℕ → List ℕ → Piece

@@ -1,5 +1,8 @@
 // Document 01's refusals.
-ghost use Rattle.lsm_format.specs.Code.{row_of, Numbered};
+ghost use Rattle.std.specs.Prelude.{◌≡◌};
+ghost use Rattle.lsm_format.specs.Code.{row_of};
+
+use arrayvec::ArrayVec;
 
 #[derive(Clone, Copy)]
 pub enum Refusal {
@@ -32,53 +35,38 @@ pub enum Refusal {
     },
 }
 
-// A refusal's number and values in document 01's order: the first `len` of `numbers`; the others are 0.
-#[derive(Clone, Copy)]
-pub struct RefusalNumbers {
-    pub numbers: [usize; 5],
-    pub len: usize,
-}
-
 impl Refusal {
-    pub fn numbers(self) -> RefusalNumbers
-        ensures { Numbered (row_of self) result.numbers result.len }
+    // A refusal's number and values in document 01's order.
+    pub fn numbers(self) -> ArrayVec<usize, 5>
+        ensures { result.items ≡ row_of self }
     {
+        let mut row = ArrayVec::new();
         match self {
-            Refusal::Parse => RefusalNumbers {
-                numbers: [1, 0, 0, 0, 0],
-                len: 1,
-            },
-            Refusal::Decode => RefusalNumbers {
-                numbers: [2, 0, 0, 0, 0],
-                len: 1,
-            },
-            Refusal::Unsupported => RefusalNumbers {
-                numbers: [3, 0, 0, 0, 0],
-                len: 1,
-            },
-            Refusal::OversizedAllocation { requested, cap } => RefusalNumbers {
-                numbers: [4, requested, cap, 0, 0],
-                len: 3,
-            },
-            Refusal::SceneOutOfRange { scene, count } => RefusalNumbers {
-                numbers: [5, scene, count, 0, 0],
-                len: 3,
-            },
-            Refusal::OutOfRange { scene, t, c, z } => RefusalNumbers {
-                numbers: [6, scene, t, c, z],
-                len: 5,
-            },
-            Refusal::TooShort { needed } => RefusalNumbers {
-                numbers: [7, needed, 0, 0, 0],
-                len: 2,
-            },
+            Refusal::Parse => row.push(1),
+            Refusal::Decode => row.push(2),
+            Refusal::Unsupported => row.push(3),
+            Refusal::OversizedAllocation { requested, cap } => {
+                row.push(4);
+                row.push(requested);
+                row.push(cap);
+            }
+            Refusal::SceneOutOfRange { scene, count } => {
+                row.push(5);
+                row.push(scene);
+                row.push(count);
+            }
+            Refusal::OutOfRange { scene, t, c, z } => {
+                row.push(6);
+                row.push(scene);
+                row.push(t);
+                row.push(c);
+                row.push(z);
+            }
+            Refusal::TooShort { needed } => {
+                row.push(7);
+                row.push(needed);
+            }
         }
+        row
     }
-}
-
-// What a check with no value answers.
-#[derive(Clone, Copy)]
-pub enum Check {
-    Accepted,
-    Refused(Refusal),
 }

@@ -1,11 +1,11 @@
 // Dimensions, kinds of samples, rectangles.
 ghost use Rattle.std.specs.Prelude.{◌≡◌};
-ghost use Rattle.lsm_format.specs.Code.{kind_of, dims_of, rect_of, bytes_of, check_of};
+ghost use Rattle.lsm_format.specs.Code.{kind_of, dims_of, rect_of, coordinate_of, answer_of};
 ghost use Rattle.lsm_format.specs.Sizes.{sample_size, unlimited_size, picture_size};
-ghost use Rattle.lsm_format.specs.Rectangle.{is_empty, within, coordinate, coordinates, rectangle, in_picture};
+ghost use Rattle.lsm_format.specs.Rectangle.{is_empty, within, coordinates, rectangle, in_picture};
 
-use crate::checked::{Word, checked_add, checked_mul};
-use crate::error::{Check, Refusal};
+use crate::checked::{checked_add, checked_mul};
+use crate::error::Refusal;
 use crate::guard::MAX_DECODED_PLANE_BYTES;
 
 // Byte order of the file.
@@ -50,57 +50,42 @@ pub struct Dims5 {
     pub x: usize,
 }
 
-// The size of a picture.
-#[derive(Clone, Copy)]
-pub enum PlaneBytes {
-    Bytes(usize),
-    Refused(Refusal),
-}
-
 impl Dims5 {
     // The bytes of one picture, refused only where they overflow: a picture above the limit can be read by rectangles.
-    pub fn plane_bytes_no_ceiling(self, dtype: DType) -> PlaneBytes
-        ensures { bytes_of result ≡ unlimited_size self.x self.y (kind_of dtype) }
+    #[tactic(auto, using(crate::proofs::Sizes::samples_over, crate::proofs::Sizes::samples_fit, crate::proofs::Told::ok_or_given))]
+    pub fn plane_bytes_no_ceiling(self, dtype: DType) -> Result<usize, Refusal>
+        ensures { answer_of result ≡ unlimited_size self.x self.y (kind_of dtype) }
     {
         let overflow = Refusal::OversizedAllocation {
-            requested: 0xffff_ffff_ffff_ffff,
+            requested: usize::MAX,
             cap: MAX_DECODED_PLANE_BYTES,
         };
-        let Word::Value(samples) = checked_mul(self.x, self.y) else {
-            return PlaneBytes::Refused(overflow);
-        };
-        match checked_mul(samples, dtype.size_bytes()) {
-            Word::Value(bytes) => PlaneBytes::Bytes(bytes),
-            Word::Overflow => PlaneBytes::Refused(overflow),
-        }
+        let samples = checked_mul(self.x, self.y).ok_or(overflow)?;
+        checked_mul(samples, dtype.size_bytes()).ok_or(overflow)
     }
 
     // The bytes of one picture, refused also above the limit.
     #[tactic(auto, unfolding(crate::specs::Sizes::picture_size, crate::specs::Answer::bind))]
-    pub fn checked_plane_bytes(self, dtype: DType) -> PlaneBytes
-        ensures { bytes_of result ≡ picture_size self.x self.y (kind_of dtype) }
+    pub fn checked_plane_bytes(self, dtype: DType) -> Result<usize, Refusal>
+        ensures { answer_of result ≡ picture_size self.x self.y (kind_of dtype) }
     {
-        match self.plane_bytes_no_ceiling(dtype) {
-            PlaneBytes::Bytes(bytes) => {
-                if bytes <= MAX_DECODED_PLANE_BYTES {
-                    PlaneBytes::Bytes(bytes)
-                } else {
-                    PlaneBytes::Refused(Refusal::OversizedAllocation {
-                        requested: bytes,
-                        cap: MAX_DECODED_PLANE_BYTES,
-                    })
-                }
-            }
-            PlaneBytes::Refused(r) => PlaneBytes::Refused(r),
+        let bytes = self.plane_bytes_no_ceiling(dtype)?;
+        if bytes <= MAX_DECODED_PLANE_BYTES {
+            Ok(bytes)
+        } else {
+            Err(Refusal::OversizedAllocation {
+                requested: bytes,
+                cap: MAX_DECODED_PLANE_BYTES,
+            })
         }
     }
 }
 
-// Where the channel block stands, if the file has one.
+// The entry that announces the CZ-LSM-Info block: where the block stands in the file, and the bytes that the entry declares.
 #[derive(Clone, Copy)]
-pub enum ChannelBlock {
-    Absent,
-    At(usize),
+pub struct CzTag {
+    pub offset: usize,
+    pub declared_bytes: usize,
 }
 
 // A rectangle of a picture: its left column and top row, its width and height, in samples.
@@ -140,57 +125,45 @@ pub struct Coordinate {
 }
 
 // Whether a coordinate lies within its scene.
-pub fn checked_coordinates(dims: Dims5, scene: usize, t: usize, c: usize, z: usize) -> Check
-    ensures { check_of result ≡ coordinates (dims_of dims) (coordinate scene t c z) }
+#[tactic(auto, unfolding(crate::specs::Rectangle::coordinates))]
+pub fn checked_coordinates(dims: Dims5, co: Coordinate) -> Result<(), Refusal>
+    ensures { answer_of result ≡ coordinates (dims_of dims) (coordinate_of co) }
 {
-    if dims.t <= t {
-        return Check::Refused(Refusal::OutOfRange { scene, t, c, z });
+    if dims.t <= co.t || dims.c <= co.c || dims.z <= co.z {
+        return Err(Refusal::OutOfRange {
+            scene: co.scene,
+            t: co.t,
+            c: co.c,
+            z: co.z,
+        });
     }
-    if dims.c <= c {
-        return Check::Refused(Refusal::OutOfRange { scene, t, c, z });
-    }
-    if dims.z <= z {
-        return Check::Refused(Refusal::OutOfRange { scene, t, c, z });
-    }
-    Check::Accepted
+    Ok(())
 }
 
 // Whether start plus extent doesn't overflow and is at most the size.
+#[tactic(auto, unfolding(crate::specs::Words::word))]
 fn within_size(start: usize, extent: usize, size: usize) -> bool
     ensures { result ≡ within start extent size }
 {
-    match checked_add(start, extent) {
-        Word::Value(end) => end <= size,
-        Word::Overflow => false,
-    }
+    checked_add(start, extent).is_some_and(|end| end <= size)
 }
 
 // Whether a rectangle lies within the picture.
-pub fn checked_rectangle(dims: Dims5, rect: PixelRect) -> Check
-    ensures { check_of result ≡ rectangle (dims_of dims) (rect_of rect) }
+#[tactic(auto, unfolding(crate::specs::Rectangle::rectangle))]
+pub fn checked_rectangle(dims: Dims5, rect: PixelRect) -> Result<(), Refusal>
+    ensures { answer_of result ≡ rectangle (dims_of dims) (rect_of rect) }
 {
-    if !within_size(rect.x, rect.w, dims.x) {
-        return Check::Refused(Refusal::Decode);
+    if !within_size(rect.x, rect.w, dims.x) || !within_size(rect.y, rect.h, dims.y) {
+        return Err(Refusal::Decode);
     }
-    if !within_size(rect.y, rect.h, dims.y) {
-        return Check::Refused(Refusal::Decode);
-    }
-    Check::Accepted
+    Ok(())
 }
 
 // The coordinate first, then the rectangle: a call that is wrong in both ways is told of the coordinate.
-pub fn checked_region(
-    dims: Dims5,
-    scene: usize,
-    t: usize,
-    c: usize,
-    z: usize,
-    rect: PixelRect,
-) -> Check
-    ensures { check_of result ≡ in_picture (dims_of dims) (coordinate scene t c z) (rect_of rect) }
+#[tactic(auto, unfolding(crate::specs::Rectangle::in_picture, crate::specs::Answer::bind))]
+pub fn checked_region(dims: Dims5, co: Coordinate, rect: PixelRect) -> Result<(), Refusal>
+    ensures { answer_of result ≡ in_picture (dims_of dims) (coordinate_of co) (rect_of rect) }
 {
-    match checked_coordinates(dims, scene, t, c, z) {
-        Check::Accepted => checked_rectangle(dims, rect),
-        Check::Refused(r) => Check::Refused(r),
-    }
+    checked_coordinates(dims, co)?;
+    checked_rectangle(dims, rect)
 }

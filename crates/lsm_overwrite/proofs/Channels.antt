@@ -3,7 +3,7 @@ use Prim.Native.Nat.{ℕ, zero, suc, ◌+◌, ◌*◌, ◌≤◌, ◌<◌}
 use native.Mathlib.Omega.{arith}
 use mathlib.Core.Bool.{Bool, true, false}
 use mathlib.Core.Path.{◌≡◌, refl, sym, ap, ◌∙◌}
-use mathlib.Core.Option.{Option, none, some}
+use Rattle.std.specs.Prelude.{Option, None, Some}
 use mathlib.Core.List.{List}
 use lib.Dec.{leb, ltb}
 use lib.IntN.{ℤ, pos, negsuc}
@@ -25,7 +25,7 @@ color_listed : (f : List ℕ) (place : ℕ) → place + 4 ≤ length f → color
 unfolding color_at_ranges
 color_listed f place h = rw (le-leb (place + 4) (length f) h, color_at_ranges)
 
-color_parts : (f : List ℕ) (place : ℕ) → place + 4 ≤ length f → some (take 3 (drop place f)) ≡ color_at f place
+color_parts : (f : List ℕ) (place : ℕ) → place + 4 ≤ length f → Some (take 3 (drop place f)) ≡ color_at f place
 unfolding color_at
 color_parts f place h = rw (le-leb (place + 4) (length f) h, color_at)
 
@@ -36,7 +36,7 @@ by_length f g len start (accepted (negsuc n)) = refl
 by_length f g len start (refused row) = refl
 
 -- what is read where the records go on
-goes_ranges : (o : Order) (f : List ℕ) (place channel : ℕ) (r : ℕ × ℕ) → name_record o f place ≡ some r →
+goes_ranges : (o : Order) (f : List ℕ) (place channel : ℕ) (r : ℕ × ℕ) → name_record o f place ≡ Some r →
     record_ranges o f place (suc channel) ≡ both (in_file f place 4) (record_ranges o f (r.0 + r.1) channel)
 unfolding record_ranges
 goes_ranges o f place channel r e = rw (e, record_ranges)
@@ -73,7 +73,7 @@ module _ (f g : List ℕ) (len : length g ≡ length f) where
   color_by true place t a =
       let there : place + 4 ≤ length f = leb-true _ _ t in
       let h : On f g place 3 = rw (color_listed f place there) at a in
-      sym (color_parts g place (omega arith)) ∙ ap some (take_law place 3 h (omega arith)) ∙ color_parts f place there
+      sym (color_parts g place (omega arith)) ∙ ap Some (take_law place 3 h (omega arith)) ∙ color_parts f place there
   color_by false place t a =
       let past : length f < place + 4 = leb-false _ _ t in
       sym (color_past g place (omega arith)) ∙ color_past f place past
@@ -97,11 +97,11 @@ module _ (f g : List ℕ) (len : length g ≡ length f) where
       ((next : ℕ) → Agree f g (record_ranges o f next channel) →
       (record_of o g next channel ≡ record_of o f next channel) × Agree f g (text_ranges (kept (record_of o f next channel)))) →
       (record_of o g place (suc channel) ≡ record_of o f place (suc channel)) × Agree f g (text_ranges (kept (record_of o f place (suc channel))))
-  next_by none o channel place e w a next =
-      let q : name_record o g place ≡ none = record_law o place w ∙ e in
+  next_by None o channel place e w a next =
+      let q : name_record o g place ≡ None = record_law o place w ∙ e in
       (names_end o g place channel q ∙ sym (names_end o f place channel e), rw (names_end o f place channel e) tt)
-  next_by (some r) o channel place e w a next =
-      let q : name_record o g place ≡ some r = record_law o place w ∙ e in
+  next_by (Some r) o channel place e w a next =
+      let q : name_record o g place ≡ Some r = record_law o place w ∙ e in
       let n = next (r.0 + r.1) (rw (goes_ranges o f place channel r e) at a).1 in
       (names_go o g place channel r q ∙ n.0 ∙ sym (names_go o f place channel r e), rw (names_go o f place channel r e) n.1)
 
@@ -112,9 +112,9 @@ module _ (f g : List ℕ) (len : length g ≡ length f) where
   channel_record o (suc channel) place a = next_by (name_record o f place) o channel place refl a.0 a (channel_record o channel)
 
   -- a name that is in the file
-  text_law : (r : Option (ℕ × ℕ)) → ((s n : ℕ) → r ≡ some (s, n) → s + n ≤ length f) → Agree f g (text_ranges r) → text_in g r ≡ text_in f r
-  text_law none i a = refl
-  text_law (some r) i a = ap (λ (bs : List ℕ). some (lossy (trimmed bs))) (take_law r.0 r.1 a (i r.0 r.1 refl))
+  text_law : (r : Option (ℕ × ℕ)) → ((s n : ℕ) → r ≡ Some (s, n) → s + n ≤ length f) → Agree f g (text_ranges r) → text_in g r ≡ text_in f r
+  text_law None i a = refl
+  text_law (Some r) i a = ap (λ (bs : List ℕ). Some (lossy (trimmed bs))) (take_law r.0 r.1 a (i r.0 r.1 refl))
 
   name_law : (o : Order) (block : ℕ) (z : ℤ) (channel : ℕ) → Agree f g (name_ranges o f block z channel) → name o g block z channel ≡ name o f block z channel
   unfolding name name_span name_ranges
@@ -136,8 +136,8 @@ module _ (f g : List ℕ) (len : length g ≡ length f) where
   channel_law : (o : Order) (block : Option ℕ) (channel : ℕ) → Agree f g (channel_ranges o f block channel) →
       channel_in o g block channel ≡ channel_in o f block channel
   unfolding channel_in channel_ranges
-  channel_law o none channel a = refl
-  channel_law o (some block) channel a = rw (pointers_law o block a.0) (by_law o block channel (pointers o f block) a.1)
+  channel_law o None channel a = refl
+  channel_law o (Some block) channel a = rw (pointers_law o block a.0) (by_law o block channel (pointers o f block) a.1)
 
   memory_law : (o : Order) (block : Option ℕ) (channels channel : ℕ) (lent : List ℕ) → Agree f g (channel_ranges o f block channel) →
       lookup_memory o g block channels channel lent ≡ lookup_memory o f block channels channel lent

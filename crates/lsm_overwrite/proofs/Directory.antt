@@ -3,7 +3,7 @@ use Prim.Native.Nat.{ℕ, zero, suc, ◌+◌, ◌*◌, ◌≤◌, ◌<◌}
 use native.Mathlib.Nat.{mul-suc, mul-zero, mul-one}
 use native.Mathlib.Omega.{arith}
 use mathlib.Core.Bool.{Bool, true, false}
-use mathlib.Core.Option.{Option, none, some}
+use Rattle.std.specs.Prelude.{Option, None, Some}
 use mathlib.Core.Path.{◌≡◌, refl, sym, ◌∙◌}
 use mathlib.Core.List.{List}
 use lib.Dec.{leb}
@@ -55,13 +55,13 @@ module _ (f g : List ℕ) (len : length g ≡ length f) where
   entry_values_law o type count s n p h i =
       bind_law _ refl (λ _. bind_law _ (value_place_law o (type_size type) count s n p h i) (λ q. refl))
 
-  value_on : (type size : ℕ) (o : Order) (p n : ℕ) → integer_size type ≡ some size → On f g p n → (p ≤ p) × (p + size ≤ p + n) →
+  value_on : (type size : ℕ) (o : Order) (p n : ℕ) → integer_size type ≡ Some size → On f g p n → (p ≤ p) × (p + size ≤ p + n) →
       value_at type o g p ≡ value_at type o f p
   unfolding value_at bind
   value_on type size o p n i h l = rw i (number_law f g len size o p n p h l)
 
   -- values one after another, in the file and past its end
-  values_on : (k type size : ℕ) (o : Order) (p : ℕ) → integer_size type ≡ some size → On f g p (size * k) → values_at k type o g p ≡ values_at k type o f p
+  values_on : (k type size : ℕ) (o : Order) (p : ℕ) → integer_size type ≡ Some size → On f g p (size * k) → values_at k type o g p ≡ values_at k type o f p
   unfolding values_at
   values_on zero type size o p i h = refl
   values_on (suc k) type size o p i h =
@@ -75,7 +75,7 @@ module _ (f g : List ℕ) (len : length g ≡ length f) where
       rest : (size k p : ℕ) → (p ≤ p + size) × (p + size + size * k ≤ p + size * suc k)
       rest size k p = omega (arith, mul-suc size k)
 
-  values_by : (b : Bool) (k type size : ℕ) (o : Order) (p : ℕ) → integer_size type ≡ some size → leb (p + size * k) (length f) ≡ b →
+  values_by : (b : Bool) (k type size : ℕ) (o : Order) (p : ℕ) → integer_size type ≡ Some size → leb (p + size * k) (length f) ≡ b →
       Agree f g (in_file f p (size * k)) → values_at k type o g p ≡ values_at k type o f p
   values_by true k type size o p i t a = values_on k type size o p i (rw (in_file_at f p (size * k) (leb-true _ _ t)) at a)
   values_by false zero type size o p i t a = values_on zero type size o p i (λ q j. absurd (omega (arith, mul-zero size)))
@@ -84,7 +84,7 @@ module _ (f g : List ℕ) (len : length g ≡ length f) where
       rw (values_past k type size o f p i past, values_past k type size o g p i (omega arith))
 
   -- whatever the type: one that is no number is refused in both
-  no_values : (k type : ℕ) (o : Order) (p : ℕ) → integer_size type ≡ none → values_at k type o g p ≡ values_at k type o f p
+  no_values : (k type : ℕ) (o : Order) (p : ℕ) → integer_size type ≡ None → values_at k type o g p ≡ values_at k type o f p
   unfolding values_at value_at bind
   no_values zero type o p i = refl
   no_values (suc k) type o p i = rw i
@@ -94,8 +94,8 @@ module _ (f g : List ℕ) (len : length g ≡ length f) where
   values_law k type o p a = by (integer_size type) refl a
     where
       by : (x : Option ℕ) → integer_size type ≡ x → Agree f g (over (given decode x) (λ size. in_file f p (size * k))) → values_at k type o g p ≡ values_at k type o f p
-      by none i b = no_values k type o p i
-      by (some size) i b = values_by (leb (p + size * k) (length f)) k type size o p i refl b
+      by None i b = no_values k type o p i
+      by (Some size) i b = values_by (leb (p + size * k) (length f)) k type size o p i refl b
 
   value_law : (type : ℕ) (o : Order) (p : ℕ) → Agree f g (value_ranges 1 type f p) → value_at type o g p ≡ value_at type o f p
   unfolding value_at

@@ -7,7 +7,7 @@ use native.Mathlib.Omega.{arith}
 use mathlib.Core.Path.{◌≡◌, refl, sym, ap, ap₂, subst, ◌∙◌}
 use mathlib.Core.Bool.{Bool, true, false, ◌&&◌}
 use mathlib.Core.Logic.{inl, inr}
-use mathlib.Core.Option.{Option, none, some}
+use Rattle.std.specs.Prelude.{Option, None, Some}
 use mathlib.Core.List.{List, [], ◌∷◌, ◌++◌}
 use lib.Dec.{leb, ltb, eqb}
 use lib.ListN.{length, get_or, take, drop}
@@ -189,8 +189,8 @@ lower_need row false h = h
 
 lower_given : {A : Type 0} (row : List ℕ) (o : Option A) → Low row → Lower (given row o)
 unfolding Lower
-lower_given row (some a) h = tt
-lower_given row none h = h
+lower_given row (Some a) h = tt
+lower_given row None h = h
 
 coordinate_lower : (d : Description) (co : Coordinate) → Lower (coordinate_there d co)
 unfolding coordinate_there scene_there coordinates

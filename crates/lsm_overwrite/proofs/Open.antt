@@ -3,7 +3,7 @@
 use Prim.Native.Nat.{ℕ, zero, suc, ◌<◌}
 use native.Mathlib.Omega.{arith}
 use mathlib.Core.Bool.{Bool, true, false}
-use mathlib.Core.Option.{Option, none, some}
+use Rattle.std.specs.Prelude.{Option, None, Some}
 use mathlib.Core.Path.{◌≡◌, refl, ap, ap₂}
 use mathlib.Core.List.{List}
 use lib.Dec.{leb, eqb}
@@ -51,8 +51,8 @@ module _ (f g : List ℕ) (len : length g ≡ length f) where
   cz_by : {A : Type 0} (o : Order) (e : Option (ℕ × ℕ)) (k : CzInfo → Result A) → Agree f g (cz_entry_ranges o f e) →
       bind (given decode e) (λ cz. bind (cz_info o g cz.0 cz.1) k) ≡ bind (given decode e) (λ cz. bind (cz_info o f cz.0 cz.1) k)
   unfolding bind
-  cz_by o none k a = refl
-  cz_by o (some cz) k a = bind_law _ (cz_law f g len o cz.0 cz.1 a) (λ i. refl)
+  cz_by o None k a = refl
+  cz_by o (Some cz) k a = bind_law _ (cz_law f g len o cz.0 cz.1 a) (λ i. refl)
 
   describe_law : (o : Order) (w : Walk) → Agree f g (cz_entry_ranges o f w.cz) → describe_walk o g w ≡ describe_walk o f w
   unfolding describe_walk

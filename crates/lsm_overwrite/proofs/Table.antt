@@ -4,7 +4,7 @@ use Prim.Native.Nat.{ℕ, zero, suc, ◌+◌, ◌-◌, ◌*◌, ◌^◌, ◌≤�
 use native.Mathlib.Nat.{add-mul, one-mul, suc-mul, mul-le-mul_right}
 use native.Mathlib.Omega.{arith}
 use mathlib.Core.Bool.{Bool, true, false, not, ◌&&◌}
-use mathlib.Core.Option.{some}
+use Rattle.std.specs.Prelude.{Some}
 use mathlib.Core.Path.{◌≡◌, refl, sym, ap, ap₂, subst, ◌∙◌}
 use mathlib.Core.List.{List, ◌++◌}
 use lib.Dec.{leb, ltb, eqb}
@@ -93,7 +93,7 @@ module _ (d : Description) (table rest : List ℕ) (fits : Fits d table) where
   Below co = (co.t < d.dims.t) × (co.c < d.dims.c) × (co.z < d.dims.z)
 
   -- a page of a scene, and a channel's strips of a page
-  page_less : (co : Coordinate) (page : ℕ) → Below co → page_of d.layout co ≡ some page → page < pages d.layout
+  page_less : (co : Coordinate) (page : ℕ) → Below co → page_of d.layout co ≡ Some page → page < pages d.layout
   page_less co page h e =
       let l = d.layout in
       let p = page_some l co page e in

@@ -1,6 +1,5 @@
 -- What the layout's types mean in the definitions' terms.
-use Rattle.std.specs.Prelude.{ℕ}
-use Rattle.std.proofs.Math.Option.{Option, none, some}
+use Rattle.std.specs.Prelude.{ℕ, Option, None, Some}
 use Rattle.lsm_format.specs.Answer.{Result, accepted, refused, decode}
 use Rattle.lsm_format.specs.Code.{row_of}
 use Rattle.lsm_format.specs.Scenes.{Layout}
@@ -30,5 +29,5 @@ pages_of (Pages n) = accepted n
 pages_of (RefusedPages r) = refused (row_of r)
 
 abbrev pub index_of : PageIndex → Option ℕ
-index_of (Page n) = some n
-index_of Outside = none
+index_of (Page n) = Some n
+index_of Outside = None

@@ -3,7 +3,7 @@
 use Prim.Native.Nat.{ℕ, zero, suc, ◌+◌, ◌≤◌, ◌<◌}
 use mathlib.Core.Path.{◌≡◌, refl, ap, ◌∙◌}
 use mathlib.Core.Bool.{Bool, true, false}
-use mathlib.Core.Option.{Option, none, some}
+use Rattle.std.specs.Prelude.{Option, None, Some}
 use mathlib.Core.List.{List}
 use native.Mathlib.Omega.{arith}
 use borrow.Author.Tests.{lt-ltb, leb-true}
@@ -29,11 +29,11 @@ use Rattle.lsm_printout.specs.Channel.{first_of, channel_of}
 
 -- a record, by whether it is short enough
 abbrev given : Bool → ℕ × ℕ → Option (ℕ × ℕ)
-given t r = elim t [ true ↦ some r | false ↦ none ]
+given t r = elim t [ true ↦ Some r | false ↦ None ]
 
 record_room : (f : List ℕ) (r : Option (ℕ × ℕ)) → length (text_of (text_in f (kept r))) ≤ 3072
-record_room f none = omega arith
-record_room f (some r) = go (leb r.1 1024) refl
+record_room f None = omega arith
+record_room f (Some r) = go (leb r.1 1024) refl
   where
     go : (t : Bool) → leb r.1 1024 ≡ t → length (text_of (text_in f (given t r))) ≤ 3072
     go true e = omega (arith, text_length (drop r.0 f) r.1, leb-true r.1 1024 e)
@@ -51,8 +51,8 @@ pointed_room o f block (refused row) channel = omega arith
 
 pub channel_room : (o : Order) (f : List ℕ) (block : Option ℕ) (channel : ℕ) → length (text_of (channel_in o f block channel).name) ≤ 3072
 unfolding channel_in
-channel_room o f none channel = omega arith
-channel_room o f (some block) channel = pointed_room o f block (pointers o f block) channel
+channel_room o f None channel = omega arith
+channel_room o f (Some block) channel = pointed_room o f block (pointers o f block) channel
 
 -- ---- the lookup
 
@@ -73,8 +73,8 @@ memory_found o f block channels channel before h =
 -- the first bytes of memory that holds a text at its front
 first_text : (t : Option (List ℕ)) (before after : List ℕ) → length (text_of t) ≤ length before → after ≡ filled (text_of t) before
     → first_of (length_of t) after ≡ t
-first_text none before after h e = refl
-first_text (some t) before after h e = ap some (ap (take (length t)) (e ∙ filled_room t before h) ∙ take_at t (drop (length t) before) (length t) refl)
+first_text None before after h e = refl
+first_text (Some t) before after h e = ap Some (ap (take (length t)) (e ∙ filled_room t before h) ∙ take_at t (drop (length t) before) (length t) refl)
 
 -- what is seen of a channel
 abbrev seen_of : Channel → Seen

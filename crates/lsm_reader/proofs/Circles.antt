@@ -4,7 +4,7 @@ use Prim.Native.Nat.{ℕ, zero, suc, ◌+◌, ◌≤◌}
 use native.Mathlib.Omega.{arith}
 use mathlib.Core.Bool.{Bool, true, false, cond}
 use mathlib.Core.Logic.{◌⊎◌, ⊎_elim, inl, inr}
-use mathlib.Core.Option.{Option, none, some}
+use Rattle.std.specs.Prelude.{Option, None, Some}
 use mathlib.Core.Path.{◌≡◌, refl, ◌∙◌}
 use mathlib.Core.List.{List}
 use lib.Dec.{eqb}
@@ -20,31 +20,31 @@ use Rattle.lsm_format.proofs.Open.{agrees_self, stays, chain_full}
 
 -- the first full page, where it is known, is this one
 abbrev pub Keeps : Option Directory → Option Directory → Type 0
-Keeps none g = Unit {0}
-Keeps (some p) g = g ≡ some p
+Keeps None g = Unit {0}
+Keeps (Some p) g = g ≡ Some p
 
 pub keeps_self : (x : Option Directory) → Keeps x x
-keeps_self none = tt
-keeps_self (some p) = refl
+keeps_self None = tt
+keeps_self (Some p) = refl
 
 -- what was known of it before a directory is known after it
 keeps_before : (first g later : Option Directory) → Keeps (earlier first later) g → Keeps first g
-keeps_before none g later k = tt
-keeps_before (some p) g later k = k
+keeps_before None g later k = tt
+keeps_before (Some p) g later k = k
 
-again_by : (b : Bool) (first g : Option Directory) (d : Directory) → agrees_with (cond b none first) d ≡ accepted tt →
-    Keeps (earlier first (cond b none (some d))) g → (agrees_with (cond b none g) d ≡ accepted tt) × (earlier g (cond b none (some d)) ≡ g)
+again_by : (b : Bool) (first g : Option Directory) (d : Directory) → agrees_with (cond b None first) d ≡ accepted tt →
+    Keeps (earlier first (cond b None (Some d))) g → (agrees_with (cond b None g) d ≡ accepted tt) × (earlier g (cond b None (Some d)) ≡ g)
 again_by true first g d a k = (refl, stays g)
-again_by false none g d a k = (rw k (agrees_self d), rw k)
-again_by false (some p) g d a k = (rw k a, rw k)
+again_by false None g d a k = (rw k (agrees_self d), rw k)
+again_by false (Some p) g d a k = (rw k a, rw k)
 
 agrees_again : (first g : Option Directory) (d : Directory) → agrees first d ≡ accepted tt → Keeps (earlier first (full_page d)) g →
     (agrees g d ≡ accepted tt) × (earlier g (full_page d) ≡ g)
 unfolding agrees bind
 agrees_again first g d a k = by (eqb (length d.offsets) (length d.counts)) a
   where
-    by : (b : Bool) → bind (need decode b) (λ _. agrees_with (cond (reduced d) none first) d) ≡ accepted tt →
-        (bind (need decode b) (λ _. agrees_with (cond (reduced d) none g) d) ≡ accepted tt) × (earlier g (full_page d) ≡ g)
+    by : (b : Bool) → bind (need decode b) (λ _. agrees_with (cond (reduced d) None first) d) ≡ accepted tt →
+        (bind (need decode b) (λ _. agrees_with (cond (reduced d) None g) d) ≡ accepted tt) × (earlier g (full_page d) ≡ g)
     by true q = again_by (reduced d) first g d q k
     by false q = absurd (not_both decode tt q)
 

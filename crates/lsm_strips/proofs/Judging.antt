@@ -5,7 +5,7 @@ use native.Mathlib.Numerals.{add-one}
 use native.Mathlib.Omega.{arith}
 use mathlib.Core.Path.{◌≡◌, refl, sym, ap, ap₂, ◌∙◌}
 use mathlib.Core.Bool.{Bool, true, false, not, ◌&&◌, and-false}
-use mathlib.Core.Option.{Option, none, some}
+use Rattle.std.specs.Prelude.{Option, None, Some}
 use mathlib.Core.List.{List}
 use lib.Dec.{eqb, ltb, leb}
 use lib.ListN.{length}
@@ -24,9 +24,9 @@ use Rattle.lsm_format.proofs.Apart.{no_case}
 use Rattle.lsm_strips.specs.Parts.{past_test}
 use Rattle.lsm_format.specs.Picture.{page_in, whole_rows_of}
 
-given_none : (r : List ℕ) (o : Option ℕ) (row : List ℕ) → given r o ≡ refused row → o ≡ none
-given_none r none row e = refl
-given_none r (some a) row e = no_case cc
+given_none : (r : List ℕ) (o : Option ℕ) (row : List ℕ) → given r o ≡ refused row → o ≡ None
+given_none r None row e = refl
+given_none r (Some a) row e = no_case cc
 
 -- ---- tests of equality
 
@@ -125,7 +125,7 @@ pub page_test : (strips words page : ℕ) → (strips ≡ 0 → ⊥) → ltb pag
 page_test strips words page h = rw (ne_eqb strips 0 h) (page_by strips words page (ltb page (words / 2 / strips)) refl (omega arith))
 
 -- the strips of a page are reckoned, and don't overflow
-module _ (d : Description) (words page strips : ℕ) (w : word (strips_per_page d) ≡ some strips) where
+module _ (d : Description) (words page strips : ℕ) (w : word (strips_per_page d) ≡ Some strips) where
   pub page_is : page_in strips words page ≡ has_page d words page
   page_is = rw (word_some _ _ w).0
 
@@ -139,7 +139,7 @@ module _ (d : Description) (words page strips : ℕ) (w : word (strips_per_page 
   channel_part c h = omega (arith, (word_some _ _ w).0, suc-mul c d.strips_per_channel, mul-le-mul_right d.strips_per_channel h)
 
 -- they overflow: no table is so long
-pub page_over : (d : Description) (words page : ℕ) → words < 2 ^ 64 → word (strips_per_page d) ≡ none → has_page d words page ≡ false
+pub page_over : (d : Description) (words page : ℕ) → words < 2 ^ 64 → word (strips_per_page d) ≡ None → has_page d words page ≡ false
 page_over d words page h w = page_missing d words page (omega (arith, word_none _ w))
 
 -- ---- plane's strips by what is found in turn
@@ -215,7 +215,7 @@ pub up_to : (g : ℕ → Bool) (m : ℕ) → ((k : ℕ) → k < m → g k ≡ tr
 up_to g m h e k l = below k m (omega arith) (λ u. h k u) (λ q. ap g q ∙ e)
 
 -- a page by its table and its channels
-module _ (d : Description) (t : List ℕ) (page strips : ℕ) (w : word (strips_per_page d) ≡ some strips) where
+module _ (d : Description) (t : List ℕ) (page strips : ℕ) (w : word (strips_per_page d) ≡ Some strips) where
   pub page_out : page_in strips (length t) page ≡ false → false ≡ whole_page d t page
   page_out h = ap (λ (b : Bool). b && whole_channels d t page d.dims.c) (sym h ∙ page_is d (length t) page strips w)
 
@@ -236,14 +236,14 @@ pages_not d t k m l h = one_fails (whole_pages d t) (whole_page d t) (λ k. refl
 
 -- the test over all pages: a row that overflows; one of no bytes; pages that overflow; by the pages
 module _ (d : Description) (t : List ℕ) where
-  pub whole_wide : word (row_bytes d) ≡ none → false ≡ whole_rows d t
+  pub whole_wide : word (row_bytes d) ≡ None → false ≡ whole_rows d t
   unfolding whole_rows
   whole_wide e =
       sym (ap (λ (b : Bool). not (eqb (row_bytes d) 0) && (b && (ltb (pages d.layout) (2 ^ 64) && whole_pages d t (pages d.layout))))
       (le-ltb (row_bytes d) (2 ^ 64) (word_none _ e))
       ∙ and-false (not (eqb (row_bytes d) 0)))
 
-  module _ (row : ℕ) (w : word (row_bytes d) ≡ some row) where
+  module _ (row : ℕ) (w : word (row_bytes d) ≡ Some row) where
     pub whole_empty : row ≡ 0 → false ≡ whole_rows d t
     unfolding whole_rows
     whole_empty e = rw (eq-eqb (row_bytes d) 0 (sym (word_some _ _ w).0 ∙ e))
@@ -262,7 +262,7 @@ module _ (d : Description) (t : List ℕ) where
         let p = word_some _ _ (given_some decode (word (pages d.layout)) n e) in
         sym (row_there h ∙ rw (lt-ltb (pages d.layout) (2 ^ 64) p.1, p.0))
 
-pub page_lost : (d : Description) (t : List ℕ) (page : ℕ) → length t < 2 ^ 64 → word (strips_per_page d) ≡ none → false ≡ whole_page d t page
+pub page_lost : (d : Description) (t : List ℕ) (page : ℕ) → length t < 2 ^ 64 → word (strips_per_page d) ≡ None → false ≡ whole_page d t page
 page_lost d t page h w = sym (ap (λ (b : Bool). b && whole_channels d t page d.dims.c) (page_over d (length t) page h w))
 
 pub pages_all : (d : Description) (t : List ℕ) (n m : ℕ) → n ≤ m → m ≤ n → whole_pages d t n ≡ true → true ≡ whole_pages d t m
@@ -271,11 +271,11 @@ pages_all d t n m l u h = let e : n ≡ m = omega arith in sym (rw e at h)
 -- ---- the page asked for
 
 module _ (d : Description) (co : Coordinate) where
-  pub past_nowhere : page_of d.layout co ≡ none → false ≡ past_test d co
+  pub past_nowhere : page_of d.layout co ≡ None → false ≡ past_test d co
   unfolding past_test
   past_nowhere e = rw e
 
-  module _ (page : ℕ) (e : page_of d.layout co ≡ some page) where
+  module _ (page : ℕ) (e : page_of d.layout co ≡ Some page) where
     pub past_by_lem : (n : ℕ) → pages_expected d.layout ≡ accepted n → leb n page ≡ past_test d co
     unfolding past_test pages_expected
     past_by_lem n w = rw e (ap (λ (k : ℕ). leb k page) (word_some _ _ (given_some decode (word (pages d.layout)) n w)).0)
@@ -286,7 +286,7 @@ module _ (d : Description) (co : Coordinate) where
     past_over row w h = rw e (sym (lt-leb (pages d.layout) page (omega (arith, word_none _ (given_none decode (word (pages d.layout)) row w)))))
 
   -- one that isn't past the test is one of its pages
-  pub past_not : past_test d co ≡ false → (page : ℕ) → page_of d.layout co ≡ some page → page < pages d.layout
+  pub past_not : past_test d co ≡ false → (page : ℕ) → page_of d.layout co ≡ Some page → page < pages d.layout
   unfolding past_test
   past_not h page e = leb-false (pages d.layout) page (rw e at h)
 

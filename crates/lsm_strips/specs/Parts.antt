@@ -1,6 +1,5 @@
 -- What the functions answer, in the definitions' terms.
-use Rattle.std.specs.Prelude.{ℕ, ◌+◌, ◌^◌, ◌≤◌, ◌<◌, Bool, false, leb}
-use Rattle.std.proofs.Math.Option.{Option, none, some}
+use Rattle.std.specs.Prelude.{ℕ, ◌+◌, ◌^◌, ◌≤◌, ◌<◌, Bool, false, leb, Option, None, Some}
 use Rattle.lsm_format.specs.Answer.{Result, accepted, refused}
 use Rattle.lsm_format.specs.Code.{row_of}
 use Rattle.lsm_format.specs.Open.{Description}
@@ -21,8 +20,8 @@ found_of (Refused r) = refused (row_of r)
 
 -- The page asked for is there by its number, and past those of the whole-row test.
 abbrev pub past_by : Description → Option ℕ → Bool
-past_by d none = false
-past_by d (some page) = leb (pages d.layout) page
+past_by d None = false
+past_by d (Some page) = leb (pages d.layout) page
 
 unfoldable pub past_test : Description → Coordinate → Bool
 past_test d co = past_by d (page_of d.layout co)

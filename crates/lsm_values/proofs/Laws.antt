@@ -3,7 +3,7 @@ use Prim.Native.Nat.{ℕ, zero, suc, ◌+◌, ◌*◌, ◌/◌, ◌≤◌, ◌<�
 use native.Mathlib.Nat.{add-zero, mul-zero, mul-suc, mul_comm, suc-mul, le-div_iff_mul-le, div-lt_iff_lt-mul}
 use native.Mathlib.Omega.{arith}
 use mathlib.Core.Bool.{Bool, true, false}
-use mathlib.Core.Option.{none, some}
+use Rattle.std.specs.Prelude.{None, Some}
 use mathlib.Core.Path.{◌≡◌, refl, sym, ◌∙◌}
 use mathlib.Core.List.{List, []}
 use lib.Dec.{leb}
@@ -21,7 +21,7 @@ unfolding values_at
 values_none type o f p = refl
 
 -- values that are all in the file are the numbers there
-pub values_there : (n type size : ℕ) (o : Order) (f : List ℕ) (p : ℕ) → integer_size type ≡ some size → p + size * n ≤ length f →
+pub values_there : (n type size : ℕ) (o : Order) (f : List ℕ) (p : ℕ) → integer_size type ≡ Some size → p + size * n ≤ length f →
     values_at n type o f p ≡ accepted (values n size o f p)
 unfolding values or_nought bind
 values_there zero type size o f p i h = values_none type o f p
@@ -51,7 +51,7 @@ module _ (o : Order) (f : List ℕ) (type : ℕ) where
   unfolding array_at bind values_at
   array_empty count p z = rw z
 
-  pub array_no_number : (count p : ℕ) → count ≤ 100000 → (count ≡ 0 → ⊥) → integer_size type ≡ none → refused decode ≡ array_at o f type count p
+  pub array_no_number : (count p : ℕ) → count ≤ 100000 → (count ≡ 0 → ⊥) → integer_size type ≡ None → refused decode ≡ array_at o f type count p
   unfolding array_at values_at value_at bind
   array_no_number zero p h z i = absurd (z refl)
   array_no_number (suc n) p h z i = rw (le-leb (suc n) 100000 h, i)
@@ -60,12 +60,12 @@ module _ (o : Order) (f : List ℕ) (type : ℕ) where
   unfolding array_at bind
   values_of count p h = rw (le-leb count 100000 h)
 
-  pub array_past : (count p size : ℕ) → count ≤ 100000 → (count ≡ 0 → ⊥) → integer_size type ≡ some size → length f < p + size * count →
+  pub array_past : (count p size : ℕ) → count ≤ 100000 → (count ≡ 0 → ⊥) → integer_size type ≡ Some size → length f < p + size * count →
       refused parse ≡ array_at o f type count p
   array_past zero p size h z i l = absurd (z refl)
   array_past (suc n) p size h z i l = rw (← values_of (suc n) p h) (sym (values_past n type size o f p i l))
 
-  pub array_there : (count p size : ℕ) → count ≤ 100000 → (count ≡ 0 → ⊥) → integer_size type ≡ some size → p + size * count ≤ length f →
+  pub array_there : (count p size : ℕ) → count ≤ 100000 → (count ≡ 0 → ⊥) → integer_size type ≡ Some size → p + size * count ≤ length f →
       accepted (values count size o f p) ≡ array_at o f type count p
   array_there count p size h z i l = rw (← values_of count p h) (sym (values_there count type size o f p i l))
 

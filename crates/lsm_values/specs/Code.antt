@@ -1,6 +1,5 @@
 -- What the types of values mean in the definitions' terms. A strip array is kept by its place, and means the values there.
-use Rattle.std.specs.Prelude.{ℕ, List}
-use Rattle.std.proofs.Math.Option.{Option, none, some}
+use Rattle.std.specs.Prelude.{ℕ, List, Option, None, Some}
 use Rattle.lsm_format.specs.Answer.{Result, accepted, refused, parse, decode}
 use Rattle.lsm_format.specs.Code.{row_of}
 use Rattle.lsm_format.specs.Numbers.{Order}
@@ -23,8 +22,8 @@ bytes_of Two = 2
 bytes_of Four = 4
 
 abbrev pub integer_of : Integer → Option ℕ
-integer_of (Of w) = some (bytes_of w)
-integer_of Nothing = none
+integer_of (Of w) = Some (bytes_of w)
+integer_of Nothing = None
 
 abbrev pub place_of : Place → Result ℕ
 place_of (At p) = accepted p

@@ -1,8 +1,7 @@
 // The values of a directory's entries: their types, where they stand, single numbers and strip arrays.
 #![tactic(auto)]
 
-ghost use Rattle.std.specs.Prelude.{◌≡◌, ℕ, ◌≤◌, ◌<◌, get_or};
-ghost use Rattle.std.proofs.Math.Option.{none, some};
+ghost use Rattle.std.specs.Prelude.{◌≡◌, ℕ, ◌≤◌, ◌<◌, get_or, None, Some};
 ghost use Rattle.lsm_format.specs.Code.{order_of};
 ghost use Rattle.lsm_format.specs.Numbers.{number_at};
 ghost use Rattle.lsm_format.specs.Directory.{type_size, integer_size, value_place, scalar, array};
@@ -100,7 +99,7 @@ pub enum Scalar {
 
 // The first value of an entry whose type is read as a number of this width.
 fn first_number(buf: &[u8], width: Width, count: u32, off: usize, e: Endian) -> Scalar
-    ensures { (type : ℕ) → integer_size type ≡ some (bytes_of width) → scalar_of result ≡ scalar (order_of e) buf.now type count off }
+    ensures { (type : ℕ) → integer_size type ≡ Some (bytes_of width) → scalar_of result ≡ scalar (order_of e) buf.now type count off }
 {
     if count == 0 {
         return Scalar::Refused(Refusal::Decode);
@@ -116,7 +115,7 @@ fn first_number(buf: &[u8], width: Width, count: u32, off: usize, e: Endian) -> 
 
 // An entry whose type is no number is refused, whatever its size and count; but the place of its values is read before that.
 fn no_number(buf: &[u8], ty: u16, count: u32, off: usize, e: Endian) -> Scalar
-    ensures { integer_size ty ≡ none → scalar_of result ≡ scalar (order_of e) buf.now ty count off }
+    ensures { integer_size ty ≡ None → scalar_of result ≡ scalar (order_of e) buf.now ty count off }
 {
     match value_place(buf, tiff_type_size(ty), count, off, e) {
         Place::At(_) => Scalar::Refused(Refusal::Decode),

@@ -3,7 +3,7 @@ use Prim.Native.Nat.{ℕ, suc, ◌+◌, ◌-◌, ◌<◌, ◌≤◌}
 use native.Mathlib.Omega.{arith}
 use mathlib.Core.Path.{◌≡◌, ap, ◌∙◌}
 use mathlib.Core.List.{List, [], ◌∷◌}
-use mathlib.Core.Option.{Option, none, some}
+use Rattle.std.specs.Prelude.{Option, None, Some}
 use lib.ListN.{length, take, set, get_or, replicate}
 use Rattle.lsm_format.specs.Answer.{accepted}
 use Rattle.lsm_format.specs.Code.{row_of, Numbered}
@@ -53,7 +53,7 @@ pub channel_is : (x : Color) (n : Option ℕ) {color name : List ℕ} → color 
     0 ∷ get_or color 0 0 ∷ get_or color 1 0 ∷ get_or color 2 0 ∷ get_or color 3 0 ∷ get_or name 0 0 ∷ get_or name 1 0 ∷ 0 ∷ []
     ≡ channel_words (accepted (record { color = color_of x; name = n }))
 unfolding color_words name_words
-channel_is Absent none a b = rw (a, b)
-channel_is Absent (some n) a b = rw (a, b)
-channel_is (Rgb r g b) none p q = rw (p, q)
-channel_is (Rgb r g b) (some n) p q = rw (p, q)
+channel_is Absent None a b = rw (a, b)
+channel_is Absent (Some n) a b = rw (a, b)
+channel_is (Rgb r g b) None p q = rw (p, q)
+channel_is (Rgb r g b) (Some n) p q = rw (p, q)

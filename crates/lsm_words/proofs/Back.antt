@@ -2,7 +2,7 @@
 use Prim.Native.Nat.{ℕ, suc, ◌^◌}
 use mathlib.Core.Path.{◌≡◌, refl}
 use mathlib.Core.Bool.{Bool, true, false, not}
-use mathlib.Core.Option.{Option, none, some}
+use Rattle.std.specs.Prelude.{Option, None, Some}
 use mathlib.Core.List.{List, [], ◌∷◌, ◌++◌}
 use lib.Dec.{T}
 use lib.ListN.{get_or}
@@ -83,13 +83,13 @@ after_size (sized x y (too_large z)) b i = refl
 
 block_back : (b : Option ℕ) (rest : List ℕ) → block_by (get_or (block_words b ++ rest) 0 0) (get_or (block_words b ++ rest) 1 0) ≡ accepted b
 unfolding block_by chosen block_words
-block_back none rest = refl
-block_back (some place) rest = refl
+block_back None rest = refl
+block_back (Some place) rest = refl
 
 after_block : (b : Option ℕ) (rest : List ℕ) (i : ℕ) → get_or (block_words b ++ rest) (suc (suc i)) 0 ≡ get_or rest i 0
 unfolding block_words
-after_block none rest i = refl
-after_block (some place) rest i = refl
+after_block None rest i = refl
+after_block (Some place) rest i = refl
 
 -- ---- the whole
 

@@ -2,7 +2,7 @@
 use Prim.Native.Nat.{ℕ}
 use native.Mathlib.Omega.{arith}
 use mathlib.Core.Path.{◌≡◌, refl, ap, ◌∙◌}
-use mathlib.Core.Option.{Option, none, some}
+use Rattle.std.specs.Prelude.{Option, None, Some}
 use mathlib.Core.List.{List, [], ◌∷◌, ◌++◌}
 use lib.ListN.{length, get_or, length-append}
 use Rattle.lsm_format.specs.Answer.{refused, accepted, bind}
@@ -54,8 +54,8 @@ module _ (w : List ℕ) where
 
 block_long : (b : Option ℕ) → length (block_words b) ≡ 2
 unfolding block_words
-block_long none = refl
-block_long (some place) = refl
+block_long None = refl
+block_long (Some place) = refl
 
 parts : (s : Calibration) (b : Option ℕ) (size block rest : List ℕ) → size ≡ size_words s → block ≡ block_words b →
     from 0 5 size ++ (from 0 2 block ++ rest) ≡ size_words s ++ (block_words b ++ rest)

@@ -1,6 +1,5 @@
 -- The words of an answer: 0 and its values, or a refusal's row.
-use Rattle.std.specs.Prelude.{ℕ, ◌+◌, ◌-◌, List, [], ◌∷◌, ◌++◌, length, replicate}
-use Rattle.std.proofs.Math.Option.{Option, none, some}
+use Rattle.std.specs.Prelude.{ℕ, ◌+◌, ◌-◌, List, [], ◌∷◌, ◌++◌, length, replicate, Option, None, Some}
 use Rattle.lsm_format.specs.Answer.{Result, accepted, refused}
 use Rattle.lsm_channel_colors.specs.Code.{Seen}
 use Rattle.lsm_reader.specs.Opening.{Told}
@@ -27,13 +26,13 @@ open_words (refused row) = padded open_length row
 
 -- whether there is a colour, then red, green, blue
 unfoldable pub color_words : Option (List ℕ) → List ℕ
-color_words none = 0 ∷ 0 ∷ 0 ∷ 0 ∷ []
-color_words (some rgb) = 1 ∷ rgb
+color_words None = 0 ∷ 0 ∷ 0 ∷ 0 ∷ []
+color_words (Some rgb) = 1 ∷ rgb
 
 -- whether there is a name, then its length
 unfoldable pub name_words : Option ℕ → List ℕ
-name_words none = 0 ∷ 0 ∷ []
-name_words (some n) = 1 ∷ n ∷ []
+name_words None = 0 ∷ 0 ∷ []
+name_words (Some n) = 1 ∷ n ∷ []
 
 abbrev pub channel_words : Result Seen → List ℕ
 channel_words (accepted s) = 0 ∷ (color_words s.color ++ (name_words s.name ++ 0 ∷ []))

@@ -1,6 +1,5 @@
 -- What the code's types mean in the definitions' terms.
-use Rattle.std.specs.Prelude.{ℕ, Float}
-use Rattle.std.proofs.Math.Option.{Option}
+use Rattle.std.specs.Prelude.{ℕ, Float, Option}
 use Rattle.lsm_format.specs.Answer.{Result, accepted, refused}
 use Rattle.lsm_format.specs.Code.{row_of, block_of}
 use Rattle.lsm_format.specs.Calibration as Rule

@@ -1,8 +1,7 @@
 -- A description as words: 0 byte order; 1 kind; 2 to 6 T C Z Y X; 7 scenes; 8 pages of a time point; 9 strips per channel; 10 whether a
 -- pixel size is stated; 11, 12 X and Y as f32 bits; 13 what became of the Z step; 14 its f32 bits; 15 whether there is a channel
 -- block; 16 its place; 17 the layout's T. A word more stands at the end.
-use Rattle.std.specs.Prelude.{ℕ, List, [], ◌∷◌, ◌++◌, get_or}
-use Rattle.std.proofs.Math.Option.{Option, none, some}
+use Rattle.std.specs.Prelude.{ℕ, List, [], ◌∷◌, ◌++◌, get_or, Option, None, Some}
 use Rattle.lsm_format.specs.Answer.{Result, accepted, bind}
 use Rattle.lsm_format.specs.Numbers.{Order, little, big}
 use Rattle.lsm_format.specs.Sizes.{Kind, u8, u16, i16, f32}
@@ -26,8 +25,8 @@ kind_word i16 = 2
 kind_word f32 = 3
 
 unfoldable pub block_words : Option ℕ → List ℕ
-block_words none = 0 ∷ 0 ∷ []
-block_words (some place) = 1 ∷ place ∷ []
+block_words None = 0 ∷ 0 ∷ []
+block_words (Some place) = 1 ∷ place ∷ []
 
 unfoldable pub description_words : Description → List ℕ
 description_words d =
@@ -45,7 +44,7 @@ unfoldable pub kind_by : ℕ → Result Kind
 kind_by n = chosen (accepted u8 ∷ accepted u16 ∷ accepted i16 ∷ accepted f32 ∷ []) n
 
 unfoldable pub block_by : ℕ → ℕ → Result (Option ℕ)
-block_by n place = chosen (accepted none ∷ accepted (some place) ∷ []) n
+block_by n place = chosen (accepted None ∷ accepted (Some place) ∷ []) n
 
 -- The description that words are.
 unfoldable pub described_by : List ℕ → Result Description

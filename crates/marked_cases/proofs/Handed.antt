@@ -5,7 +5,7 @@ use Prim.Native.Nat.{ℕ, ◌+◌, ◌-◌, ◌^◌}
 use mathlib.Core.Path.{◌≡◌, refl}
 use mathlib.Core.Bool.{true, false}
 use mathlib.Core.List.{List, [], ◌∷◌, ◌++◌}
-use mathlib.Core.Option.{none, some}
+use Rattle.std.specs.Prelude.{None, Some}
 use lib.ListN.{take, set}
 use Rattle.lsm_format.specs.Answer.{Result, accepted, refused, bind}
 use Rattle.lsm_format.specs.Ranges.{over, flat}
@@ -31,7 +31,7 @@ described kind c z y x scenes depth strips =
       layout = record { scenes = scenes; t = 1; depth = depth };
       strips_per_channel = strips;
       calibration = uncalibrated;
-      channel_block = none;
+      channel_block = None;
     }
 
 -- one scene of one page, one channel in so many strips
@@ -238,11 +238,11 @@ length_needed = (refl, refl, refl, refl, refl)
 
 lookups :
     -- "Channel lookup (added) checks the channel": 6 with scene, t and z 0
-    (lookup little four (some 0) 2 2 0 ≡ refused (6 ∷ 0 ∷ 0 ∷ 2 ∷ 0 ∷ []))
+    (lookup little four (Some 0) 2 2 0 ≡ refused (6 ∷ 0 ∷ 0 ∷ 2 ∷ 0 ∷ []))
     -- "If either can't be read, every channel lacks both": a block at the end of the file, and one behind the largest place
-    × (lookup little four (some 4) 2 1 0 ≡ accepted (record { color = none; name = none }))
-    × (lookup little four (some (2 ^ 64 - 1)) 2 1 0 ≡ accepted (record { color = none; name = none }))
-    × (lookup little four none 2 1 0 ≡ accepted (record { color = none; name = none }))
+    × (lookup little four (Some 4) 2 1 0 ≡ accepted (record { color = None; name = None }))
+    × (lookup little four (Some (2 ^ 64 - 1)) 2 1 0 ≡ accepted (record { color = None; name = None }))
+    × (lookup little four None 2 1 0 ≡ accepted (record { color = None; name = None }))
 unfolding lookup lend channel_in pointers part_at bind
 lookups = (refl, refl, refl, refl)
 
@@ -252,17 +252,17 @@ nineteen = 0 ∷ 0 ∷ 0 ∷ 0 ∷ 255 ∷ 128 ∷ 64 ∷ 1 ∷ 0 ∷ 0 ∷ 0 �
 
 second_pointer :
     -- "If either can't be read, every channel lacks both": the first can, the second can't
-    (lookup little nineteen (some 0) 1 0 0 ≡ accepted (record { color = none; name = none }))
-    × (lookup little (take 16 nineteen) (some 0) 1 0 0 ≡ accepted (record { color = none; name = none }))
+    (lookup little nineteen (Some 0) 1 0 0 ≡ accepted (record { color = None; name = None }))
+    × (lookup little (take 16 nineteen) (Some 0) 1 0 0 ≡ accepted (record { color = None; name = None }))
     -- both can, and the second is 0: "A pointer ≤ 0 means none of that sort"
-    × (lookup little (nineteen ++ 0 ∷ []) (some 0) 1 0 0 ≡ accepted (record { color = some (255 ∷ 128 ∷ 64 ∷ []); name = none }))
+    × (lookup little (nineteen ++ 0 ∷ []) (Some 0) 1 0 0 ≡ accepted (record { color = Some (255 ∷ 128 ∷ 64 ∷ []); name = None }))
 unfolding lookup lend channel_in pointers color color_at name name_span i32_at signed32 number_at part_at bind
 second_pointer = (refl, refl, refl)
 
 -- "It needs all 4 bytes in the file; the first three are given": at 16 of 20 bytes, and at 17
 last_colour :
-    (lookup little (set (nineteen ++ 0 ∷ []) 12 16) (some 0) 1 0 0 ≡ accepted (record { color = some (0 ∷ 0 ∷ 0 ∷ []); name = none }))
-    × (lookup little (set (nineteen ++ 0 ∷ []) 12 17) (some 0) 1 0 0 ≡ accepted (record { color = none; name = none }))
+    (lookup little (set (nineteen ++ 0 ∷ []) 12 16) (Some 0) 1 0 0 ≡ accepted (record { color = Some (0 ∷ 0 ∷ 0 ∷ []); name = None }))
+    × (lookup little (set (nineteen ++ 0 ∷ []) 12 17) (Some 0) 1 0 0 ≡ accepted (record { color = None; name = None }))
 unfolding lookup lend channel_in pointers color color_at name name_span i32_at signed32 number_at part_at bind
 last_colour = (refl, refl)
 

@@ -3,7 +3,7 @@
 use Prim.Native.Nat.{ℕ, ◌+◌, ◌-◌, ◌^◌}
 use mathlib.Core.Path.{◌≡◌, refl}
 use mathlib.Core.List.{List, [], ◌∷◌, ◌++◌}
-use mathlib.Core.Option.{none, some}
+use Rattle.std.specs.Prelude.{None, Some}
 use lib.ListN.{set}
 use Rattle.lsm_format.specs.Answer.{Result, accepted, refused, bind}
 use Rattle.lsm_format.specs.Ranges.{over, in_file, flat}
@@ -81,7 +81,7 @@ W-opened =
             layout = record { scenes = 1; t = 3; depth = 2 };
             strips_per_channel = 1;
             calibration = uncalibrated;
-            channel_block = none;
+            channel_block = None;
           };
       visited = 6;
       table =
@@ -149,20 +149,20 @@ laid scenes t depth = record { scenes = scenes; t = t; depth = depth }
 
 page_numbers :
     -- of two scenes of three weeks and two planes: the last page, and the first of each scene and of the second week
-    (page_of (laid 2 3 2) (coordinate 1 2 0 1) ≡ some 11)
-    × (page_of (laid 2 3 2) (coordinate 1 0 0 0) ≡ some 6)
-    × (page_of (laid 2 3 2) (coordinate 0 1 0 0) ≡ some 2)
-    × (page_of (laid 2 3 2) (coordinate 2 0 0 0) ≡ none)
+    (page_of (laid 2 3 2) (coordinate 1 2 0 1) ≡ Some 11)
+    × (page_of (laid 2 3 2) (coordinate 1 0 0 0) ≡ Some 6)
+    × (page_of (laid 2 3 2) (coordinate 0 1 0 0) ≡ Some 2)
+    × (page_of (laid 2 3 2) (coordinate 2 0 0 0) ≡ None)
     -- the largest page number, and one more: by the scene's weeks, by t, by the depth, by z
-    × (page_of (laid (2 ^ 33) (2 ^ 32) 1) (coordinate (2 ^ 32 - 1) (2 ^ 32 - 1) 0 0) ≡ some (2 ^ 64 - 1))
-    × (page_of (laid (2 ^ 33) (2 ^ 32) 1) (coordinate (2 ^ 32) 0 0 0) ≡ none)
-    × (page_of (laid (2 ^ 33) (2 ^ 32) 1) (coordinate (2 ^ 32 - 1) (2 ^ 32) 0 0) ≡ none)
-    × (page_of (laid 1 1 (2 ^ 32)) (coordinate 0 (2 ^ 32) 0 0) ≡ none)
-    × (page_of (laid 1 1 (2 ^ 32)) (coordinate 0 (2 ^ 32 - 1) 0 (2 ^ 32 - 1)) ≡ some (2 ^ 64 - 1))
-    × (page_of (laid 1 1 (2 ^ 32)) (coordinate 0 (2 ^ 32 - 1) 0 (2 ^ 32)) ≡ none)
+    × (page_of (laid (2 ^ 33) (2 ^ 32) 1) (coordinate (2 ^ 32 - 1) (2 ^ 32 - 1) 0 0) ≡ Some (2 ^ 64 - 1))
+    × (page_of (laid (2 ^ 33) (2 ^ 32) 1) (coordinate (2 ^ 32) 0 0 0) ≡ None)
+    × (page_of (laid (2 ^ 33) (2 ^ 32) 1) (coordinate (2 ^ 32 - 1) (2 ^ 32) 0 0) ≡ None)
+    × (page_of (laid 1 1 (2 ^ 32)) (coordinate 0 (2 ^ 32) 0 0) ≡ None)
+    × (page_of (laid 1 1 (2 ^ 32)) (coordinate 0 (2 ^ 32 - 1) 0 (2 ^ 32 - 1)) ≡ Some (2 ^ 64 - 1))
+    × (page_of (laid 1 1 (2 ^ 32)) (coordinate 0 (2 ^ 32 - 1) 0 (2 ^ 32)) ≡ None)
     -- taken exactly: a factor 0 makes 0, however large the others are
-    × (page_of (laid (2 ^ 40) (2 ^ 40) 0) (coordinate (2 ^ 40 - 1) (2 ^ 63) 0 5) ≡ some 5)
-    × (page_of (laid 2 0 3) (coordinate 1 2 0 1) ≡ some 7)
+    × (page_of (laid (2 ^ 40) (2 ^ 40) 0) (coordinate (2 ^ 40 - 1) (2 ^ 63) 0 5) ≡ Some 5)
+    × (page_of (laid 2 0 3) (coordinate 1 2 0 1) ≡ Some 7)
 unfolding page_of word
 page_numbers = (refl, refl, refl, refl, refl, refl, refl, refl, refl, refl, refl, refl)
 
@@ -189,7 +189,7 @@ weekly t z x l =
       layout = l;
       strips_per_channel = 1;
       calibration = uncalibrated;
-      channel_block = none;
+      channel_block = None;
     }
 
 -- four pages of one byte each

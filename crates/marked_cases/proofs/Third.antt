@@ -3,7 +3,7 @@
 use Prim.Native.Nat.{ℕ, ◌*◌, ◌^◌}
 use mathlib.Core.Path.{◌≡◌, refl}
 use mathlib.Core.List.{List, [], ◌∷◌, ◌++◌}
-use mathlib.Core.Option.{some}
+use Rattle.std.specs.Prelude.{Some}
 use lib.ListN.{set, replicate}
 use lib.Ieee.{of_bits, of_fields, odd, lt}
 use Rattle.lsm_format.specs.Answer.{Result, accepted, refused, bind}
@@ -122,41 +122,41 @@ abbrev J-third : List (ℕ × ℕ)
 J-third = (401, 8) ∷ (417, 3) ∷ (421, 4) ∷ (1450, 4) ∷ []
 
 channel_lists :
-    (flat (channel_ranges little J (some 389) 0) ≡ J-first)
-    × (flat (channel_ranges little J (some 389) 1) ≡ J-second)
-    × (flat (channel_ranges little J (some 389) 2) ≡ J-third)
+    (flat (channel_ranges little J (Some 389) 0) ≡ J-first)
+    × (flat (channel_ranges little J (Some 389) 1) ≡ J-second)
+    × (flat (channel_ranges little J (Some 389) 2) ≡ J-third)
 unfolding channel_ranges pointers color_ranges color_at_ranges name_ranges record_ranges name_record over in_file flat i32_at signed32 number_at part_at bind
 channel_lists = (refl, refl, refl)
 
 name_lists :
     -- "Length 1024 is kept": the first name with one byte less
-    (flat (channel_ranges little (set J 421 0) (some 389) 0) ≡ J-first ++ (425, 1024) ∷ [])
+    (flat (channel_ranges little (set J 421 0) (Some 389) 0) ≡ J-first ++ (425, 1024) ∷ [])
     -- "A negative length [..] ends the names": the second's
-    × (flat (channel_ranges little (set J 1453 255) (some 389) 1) ≡ (401, 8) ∷ (413, 3) ∷ (421, 4) ∷ (1450, 4) ∷ [])
-    × (flat (channel_ranges little (set J 1453 255) (some 389) 2) ≡ J-third)
+    × (flat (channel_ranges little (set J 1453 255) (Some 389) 1) ≡ (401, 8) ∷ (413, 3) ∷ (421, 4) ∷ (1450, 4) ∷ [])
+    × (flat (channel_ranges little (set J 1453 255) (Some 389) 2) ≡ J-third)
     -- "or a [..] name that passes the end of the file": one that ends there, one that passes it by a byte
-    × (flat (channel_ranges little (set J 1450 6) (some 389) 1) ≡ (401, 8) ∷ (413, 3) ∷ (421, 4) ∷ (1450, 4) ∷ (1454, 6) ∷ [])
-    × (flat (channel_ranges little (set J 1450 7) (some 389) 1) ≡ (401, 8) ∷ (413, 3) ∷ (421, 4) ∷ (1450, 4) ∷ [])
-    × (flat (channel_ranges little (set J 1450 7) (some 389) 2) ≡ J-third)
+    × (flat (channel_ranges little (set J 1450 6) (Some 389) 1) ≡ (401, 8) ∷ (413, 3) ∷ (421, 4) ∷ (1450, 4) ∷ (1454, 6) ∷ [])
+    × (flat (channel_ranges little (set J 1450 7) (Some 389) 1) ≡ (401, 8) ∷ (413, 3) ∷ (421, 4) ∷ (1450, 4) ∷ [])
+    × (flat (channel_ranges little (set J 1450 7) (Some 389) 2) ≡ J-third)
     -- "a length word [..] that passes the end of the file": the names at 1450, so that the second's length is reached on the way to the third
-    × (flat (channel_ranges little (set (set J 405 37) 406 4) (some 389) 2) ≡ (401, 8) ∷ (417, 3) ∷ (1450, 4) ∷ [])
+    × (flat (channel_ranges little (set (set J 405 37) 406 4) (Some 389) 2) ≡ (401, 8) ∷ (417, 3) ∷ (1450, 4) ∷ [])
 unfolding channel_ranges pointers color_ranges color_at_ranges name_ranges record_ranges name_record over in_file flat i32_at signed32 number_at part_at bind
 name_lists = (refl, refl, refl, refl, refl, refl, refl)
 
 -- "A pointer ≤ 0 means none of that sort": that of the colours, 0 and negative; that of the names
 pointer_lists :
-    (flat (channel_ranges little (set J 401 0) (some 389) 0) ≡ (401, 8) ∷ (421, 4) ∷ [])
-    × (flat (channel_ranges little (set J 404 255) (some 389) 0) ≡ (401, 8) ∷ (421, 4) ∷ [])
-    × (flat (channel_ranges little (set J 405 0) (some 389) 0) ≡ (401, 8) ∷ (409, 3) ∷ [])
-    × (flat (channel_ranges little (set J 408 255) (some 389) 0) ≡ (401, 8) ∷ (409, 3) ∷ [])
+    (flat (channel_ranges little (set J 401 0) (Some 389) 0) ≡ (401, 8) ∷ (421, 4) ∷ [])
+    × (flat (channel_ranges little (set J 404 255) (Some 389) 0) ≡ (401, 8) ∷ (421, 4) ∷ [])
+    × (flat (channel_ranges little (set J 405 0) (Some 389) 0) ≡ (401, 8) ∷ (409, 3) ∷ [])
+    × (flat (channel_ranges little (set J 408 255) (Some 389) 0) ≡ (401, 8) ∷ (409, 3) ∷ [])
 unfolding channel_ranges pointers color_ranges color_at_ranges name_ranges record_ranges name_record over in_file flat i32_at signed32 number_at part_at bind
 pointer_lists = (refl, refl, refl, refl)
 
 -- "It needs all 4 bytes in the file": the colours at 1449, so that the third lacks its fourth byte; and at 1448, so that it has it
 colour_lists :
-    (flat (channel_ranges little (set (set J 401 36) 402 4) (some 389) 1) ≡ (401, 8) ∷ (1453, 3) ∷ (421, 4) ∷ (1450, 4) ∷ (1454, 3) ∷ [])
-    × (flat (channel_ranges little (set (set J 401 36) 402 4) (some 389) 2) ≡ (401, 8) ∷ (421, 4) ∷ (1450, 4) ∷ [])
-    × (flat (channel_ranges little (set (set J 401 35) 402 4) (some 389) 2) ≡ (401, 8) ∷ (1456, 3) ∷ (421, 4) ∷ (1450, 4) ∷ [])
+    (flat (channel_ranges little (set (set J 401 36) 402 4) (Some 389) 1) ≡ (401, 8) ∷ (1453, 3) ∷ (421, 4) ∷ (1450, 4) ∷ (1454, 3) ∷ [])
+    × (flat (channel_ranges little (set (set J 401 36) 402 4) (Some 389) 2) ≡ (401, 8) ∷ (421, 4) ∷ (1450, 4) ∷ [])
+    × (flat (channel_ranges little (set (set J 401 35) 402 4) (Some 389) 2) ≡ (401, 8) ∷ (1456, 3) ∷ (421, 4) ∷ (1450, 4) ∷ [])
 unfolding channel_ranges pointers color_ranges color_at_ranges name_ranges record_ranges name_record over in_file flat i32_at signed32 number_at part_at bind
 colour_lists = (refl, refl, refl)
 

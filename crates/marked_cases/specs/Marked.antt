@@ -1,7 +1,6 @@
 -- Document 01's marked cases (◆), one table about the definitions: a row for each, in the paper's order, with the paper's words beside it. Where a
 -- change request of document 02 gives a case another answer, its words stand there too.
-use Rattle.std.specs.Prelude.{ℕ, ◌≡◌, List, [], ◌∷◌, false, pos, set, get_or}
-use Rattle.std.proofs.Math.Option.{none}
+use Rattle.std.specs.Prelude.{ℕ, ◌≡◌, List, [], ◌∷◌, false, pos, set, get_or, None}
 use Rattle.std.specs.Float.{fin}
 use Rattle.lsm_format.specs.Answer.{Result, accepted, refused, bind}
 use Rattle.lsm_format.specs.Numbers.{little}
@@ -49,7 +48,7 @@ G-opened =
             layout = record { scenes = 1; t = 1; depth = 1 };
             strips_per_channel = 1;
             calibration = uncalibrated;
-            channel_block = none;
+            channel_block = None;
           };
       visited = 1;
       table = 116 ∷ 2 ∷ [];

@@ -3,7 +3,7 @@
 use Prim.Native.Nat.{ℕ, zero, suc, ◌+◌, ◌*◌, ◌-◌, ◌≤◌, ◌<◌}
 use native.Mathlib.Omega.{arith}
 use mathlib.Core.Bool.{Bool, true, false}
-use mathlib.Core.Option.{Option, none, some}
+use Rattle.std.specs.Prelude.{Option, None, Some}
 use mathlib.Core.Path.{◌≡◌, refl}
 use mathlib.Core.List.{List}
 use lib.Dec.{leb}
@@ -22,28 +22,28 @@ use Rattle.printout_room.proofs.Texts.{text_length}
 
 -- the bytes of a record in the file
 abbrev raw : Option (ℕ × ℕ) → ℕ
-raw none = 0
-raw (some r) = r.1
+raw None = 0
+raw (Some r) = r.1
 
 given_length : (f : List ℕ) (s n : ℕ) → length (hex_bytes (lossy (trimmed (take n (drop s f))))) ≤ 6 * n
 given_length f s n = rw bytes_length (omega (arith, text_length (drop s f) n))
 
-by_test : (t : Bool) (f : List ℕ) (r : ℕ × ℕ) → length (name_text (text_in f (elim t [ true ↦ some r | false ↦ none ]))) ≤ 1 + 6 * r.1
+by_test : (t : Bool) (f : List ℕ) (r : ℕ × ℕ) → length (name_text (text_in f (elim t [ true ↦ Some r | false ↦ None ]))) ≤ 1 + 6 * r.1
 by_test true f r = omega (arith, given_length f r.0 r.1)
 by_test false f r = omega arith
 
 name_length : (f : List ℕ) (r : Option (ℕ × ℕ)) → length (name_text (text_in f (kept r))) ≤ 1 + 6 * raw r
-name_length f none = omega arith
-name_length f (some r) = by_test (leb r.1 1024) f r
+name_length f None = omega arith
+name_length f (Some r) = by_test (leb r.1 1024) f r
 
 -- ---- all names
 
 -- a record starts past its length word and ends in the file
 abbrev Stands : ℕ → ℕ → Option (ℕ × ℕ) → Type 0
-Stands place end none = Unit {0}
-Stands place end (some r) = (place ≤ r.0) × (r.0 + r.1 ≤ end)
+Stands place end None = Unit {0}
+Stands place end (Some r) = (place ≤ r.0) × (r.0 + r.1 ≤ end)
 
-by_end : (t : Bool) (start n end : ℕ) → leb (start + n) end ≡ t → Stands start end (elim t [ true ↦ some (start, n) | false ↦ none ])
+by_end : (t : Bool) (start n end : ℕ) → leb (start + n) end ≡ t → Stands start end (elim t [ true ↦ Some (start, n) | false ↦ None ])
 by_end true start n end e = (omega arith, leb-true _ _ e)
 by_end false start n end e = tt
 
@@ -55,9 +55,9 @@ record_by_lem f start (refused row) = tt
 -- a first record, and those after its end
 after_first : (o : Order) (f : List ℕ) (n place : ℕ) (r : Option (ℕ × ℕ)) → Stands (place + 4) (length f) r →
     ((next : ℕ) → sums n (λ i. raw (record_of o f next i)) ≤ length f - next) →
-    raw r + sums n (λ i. raw (elim r [ none ↦ none | some q ↦ record_of o f (q.0 + q.1) i ])) ≤ length f - place
-after_first o f n place none s rest = omega (arith, sums_none n)
-after_first o f n place (some r) s rest = omega (arith, rest (r.0 + r.1))
+    raw r + sums n (λ i. raw (elim r [ None ↦ None | Some q ↦ record_of o f (q.0 + q.1) i ])) ≤ length f - place
+after_first o f n place None s rest = omega (arith, sums_none n)
+after_first o f n place (Some r) s rest = omega (arith, rest (r.0 + r.1))
 
 -- names that follow one another from a place on have no more bytes than the file from there
 names_length : (o : Order) (f : List ℕ) (n place : ℕ) → sums n (λ i. raw (record_of o f place i)) ≤ length f - place
@@ -69,7 +69,7 @@ names_length o f (suc n) place =
 
 -- ---- a channel's line
 
-color_at_lem : (t : Bool) (f : List ℕ) (place : ℕ) → length (color_text (elim t [ true ↦ some (take 3 (drop place f)) | false ↦ none ])) ≤ 6
+color_at_lem : (t : Bool) (f : List ℕ) (place : ℕ) → length (color_text (elim t [ true ↦ Some (take 3 (drop place f)) | false ↦ None ])) ≤ 6
 color_at_lem true f place = rw bytes_length (omega (arith, length-take 3 (drop place f)))
 color_at_lem false f place = omega arith
 
@@ -92,8 +92,8 @@ unfolding channel_line
 both x y n h k = simp length-append (omega arith)
 
 -- no channel has a name
-nameless : (f : List ℕ) (x : ℕ → Option (List ℕ)) → ((i : ℕ) → length (color_text (x i)) ≤ 6) → Named f (λ i. record { color = x i; name = none })
-nameless f x h = record { bytes = λ i. 0; line = λ i. both (x i) none 0 (h i) (omega arith); all = λ n. omega (arith, sums_none n) }
+nameless : (f : List ℕ) (x : ℕ → Option (List ℕ)) → ((i : ℕ) → length (color_text (x i)) ≤ 6) → Named f (λ i. record { color = x i; name = None })
+nameless f x h = record { bytes = λ i. 0; line = λ i. both (x i) None 0 (h i) (omega arith); all = λ n. omega (arith, sums_none n) }
 
 by_pointer : (o : Order) (f : List ℕ) (block : ℕ) (colors names : ℤ) →
     Named f (λ i. record { color = color f block colors i; name = name o f block names i })
@@ -109,9 +109,9 @@ by_pointer o f block colors (negsuc n) = nameless f (color f block colors) (colo
 
 by_pointers : (o : Order) (f : List ℕ) (block : ℕ) (p : Result (ℤ × ℤ)) → Named f (channel_by o f block p)
 by_pointers o f block (accepted p) = by_pointer o f block p.0 p.1
-by_pointers o f block (refused row) = nameless f (λ i. none) (λ i. omega arith)
+by_pointers o f block (refused row) = nameless f (λ i. None) (λ i. omega arith)
 
 pub named : (o : Order) (f : List ℕ) (block : Option ℕ) → Named f (channel_in o f block)
 unfolding channel_in
-named o f none = nameless f (λ i. none) (λ i. omega arith)
-named o f (some block) = by_pointers o f block (pointers o f block)
+named o f None = nameless f (λ i. None) (λ i. omega arith)
+named o f (Some block) = by_pointers o f block (pointers o f block)

@@ -3,7 +3,7 @@
 use Prim.Native.Nat.{ℕ, zero, suc, ◌+◌, ◌*◌, ◌-◌, ◌^◌, ◌≤◌, ◌<◌, min}
 use native.Mathlib.Omega.{arith}
 use mathlib.Core.Bool.{Bool, true, false, cond}
-use mathlib.Core.Option.{Option, none, some}
+use Rattle.std.specs.Prelude.{Option, None, Some}
 use mathlib.Core.List.{List, [], ◌∷◌}
 use lib.Dec.{leb, eqb}
 use lib.IntN.{ℤ, pos, negsuc}
@@ -74,8 +74,8 @@ need_refuses row true h = accepts tt
 need_refuses row false h = refuses (Unit {0}) row h
 
 given_refuses : {A : Type 0} (row : List ℕ) (x : Option A) → Short row → Refusing (given row x)
-given_refuses {A} row none h = refuses A row h
-given_refuses {A} row (some a) h = accepts a
+given_refuses {A} row None h = refuses A row h
+given_refuses {A} row (Some a) h = accepts a
 
 cond_refuses : {A : Type 0} (b : Bool) (x y : Result A) → Refusing x → Refusing y → Refusing (cond b x y)
 cond_refuses true x y h i = h
@@ -157,8 +157,8 @@ directory_refuses o f place = search (steps, number_refuses, entries_refuse) dep
 -- ---- the walk
 
 agrees_with_lem : (x : Option Directory) (d : Directory) → Refusing (agrees_with x d)
-agrees_with_lem none d = search steps
-agrees_with_lem (some p) d = search steps
+agrees_with_lem None d = search steps
+agrees_with_lem (Some p) d = search steps
 
 join_refuses : (w : Walk) (d : Directory) → Refusing (join w d)
 unfolding join agrees

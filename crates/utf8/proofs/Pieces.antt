@@ -4,7 +4,7 @@ use native.Mathlib.Numerals.{add-one}
 use native.Mathlib.Omega.{arith}
 use mathlib.Core.Path.{◌≡◌, refl, sym, ap, subst, ◌∙◌}
 use mathlib.Core.Bool.{Bool, true, false}
-use mathlib.Core.Option.{Option, none, some}
+use Rattle.std.specs.Prelude.{Option, None, Some}
 use mathlib.Core.List.{List, [], ◌∷◌}
 use borrow.Author.Tests.{eq-eqb, ne_eqb}
 use lib.Dec.{eqb}
@@ -80,8 +80,8 @@ after_by true n = refl
 after_by false n = refl
 
 after_piece : (row : Option (List (ℕ × ℕ))) (bs : List ℕ) → after (piece_by row bs) ≤ length bs
-after_piece none bs = zero-le
-after_piece (some rs) bs = rw (after_by (eqb (matched rs bs) (length rs)) (matched rs bs)) (matched_le rs bs)
+after_piece None bs = zero-le
+after_piece (Some rs) bs = rw (after_by (eqb (matched rs bs) (length rs)) (matched rs bs)) (matched_le rs bs)
 
 -- the bytes after a piece's first are there
 pub after_le : (b : ℕ) (bs : List ℕ) → after (piece b bs) ≤ length bs
@@ -103,12 +103,12 @@ module _ (s : List ℕ) (at : ℕ) (h : at < length s) where
   stands p e = record { is = e; inside = subst (λ (q : Utf8.Piece). at + taken q ≤ length s) (sym e) (piece_inside s at h) }
 
   -- a byte that begins no row
-  pub stands_none : followers_in well_formed (get_or s at 0) ≡ none → Stands s at (Subpart 0)
+  pub stands_none : followers_in well_formed (get_or s at 0) ≡ None → Stands s at (Subpart 0)
   unfolding piece_at piece
   stands_none e = stands (Subpart 0) (sym (ap (λ (row : Option (List (ℕ × ℕ))). piece_by row (drop (suc at) s)) e))
 
   -- a byte that begins a row of n followers, of which m are there
-  module _ (n low high m : ℕ) (row : followers_in well_formed (get_or s at 0) ≡ some (ranges n low high))
+  module _ (n low high m : ℕ) (row : followers_in well_formed (get_or s at 0) ≡ Some (ranges n low high))
       (follow : m ≡ matched (ranges n low high) (drop (at + 1) s)) where
     by_test : {t : Bool} → eqb m n ≡ t → piece_at s at ≡ elim t [ true ↦ sequence m | false ↦ subpart m ]
     unfolding piece_at piece

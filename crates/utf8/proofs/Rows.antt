@@ -2,7 +2,7 @@
 use Prim.Native.Nat.{ℕ, zero, suc, ◌≤◌, ◌<◌}
 use mathlib.Core.Path.{◌≡◌, refl, ap, ◌∙◌}
 use mathlib.Core.Bool.{Bool, true, false, ◌&&◌}
-use mathlib.Core.Option.{Option, none, some}
+use Rattle.std.specs.Prelude.{Option, None, Some}
 use mathlib.Core.List.{List, [], ◌∷◌}
 use borrow.Author.Tests.{le-leb, lt-leb}
 use lib.Dec.{leb}
@@ -41,12 +41,12 @@ First [] b = ⊥
 First (row ∷ rows) b = (row.first.0 ≤ b) × (b ≤ row.first.1)
 
 abbrev pub first_followers : List Sequence → Option (List (ℕ × ℕ))
-first_followers [] = none
-first_followers (row ∷ rows) = some row.followers
+first_followers [] = None
+first_followers (row ∷ rows) = Some row.followers
 
 step_to : (row : Sequence) (rows : List Sequence) (b : ℕ) {t : Bool} → between row.first b ≡ t
-    → followers_in (row ∷ rows) b ≡ elim t [ true ↦ some row.followers | false ↦ followers_in rows b ]
-step_to row rows b e = ap (λ (t : Bool). elim t [ true ↦ some row.followers | false ↦ followers_in rows b ]) e
+    → followers_in (row ∷ rows) b ≡ elim t [ true ↦ Some row.followers | false ↦ followers_in rows b ]
+step_to row rows b e = ap (λ (t : Bool). elim t [ true ↦ Some row.followers | false ↦ followers_in rows b ]) e
 
 -- a byte that begins row k, with the rows before it below the byte
 pub in_row : (k : ℕ) (rows : List Sequence) (b : ℕ) → Past (take k rows) b → First (drop k rows) b → followers_in rows b ≡ first_followers (drop k rows)
@@ -56,7 +56,7 @@ in_row (suc k) [] b p f = absurd f
 in_row (suc k) (row ∷ rows) b p f = step_to row rows b (between_past row.first b p.0) ∙ in_row k rows b p.1 f
 
 -- a byte between row k - 1 and row k
-pub no_row : (k : ℕ) (rows : List Sequence) (b : ℕ) → Past (take k rows) b → Below (drop k rows) b → followers_in rows b ≡ none
+pub no_row : (k : ℕ) (rows : List Sequence) (b : ℕ) → Past (take k rows) b → Below (drop k rows) b → followers_in rows b ≡ None
 no_row zero [] b p f = refl
 no_row zero (row ∷ rows) b p f = step_to row rows b (between_below row.first b f.0) ∙ no_row zero rows b tt f.1
 no_row (suc k) [] b p f = refl

@@ -1,6 +1,5 @@
 -- What the code's rows and pieces mean in the definitions' terms.
-use Rattle.std.specs.Prelude.{ℕ, zero, suc, ◌+◌, ◌≤◌, ◌≡◌, List, [], ◌∷◌, length, drop, get_or, replicate}
-use Rattle.std.proofs.Math.Option.{Option, none, some}
+use Rattle.std.specs.Prelude.{ℕ, zero, suc, ◌+◌, ◌≤◌, ◌≡◌, List, [], ◌∷◌, length, drop, get_or, replicate, Option, None, Some}
 use Rattle.lsm_format.specs.Utf8 as Utf8
 use Rattle.lsm_format.specs.Utf8.{tail, sequence, subpart, piece, after, decoded}
 use Rattle.utf8.specs.declared.Row.{Row}
@@ -14,8 +13,8 @@ ranges zero low high = []
 ranges (suc n) low high = (low, high) ∷ replicate n tail
 
 abbrev pub ranges_of : Row → Option (List (ℕ × ℕ))
-ranges_of Nothing = none
-ranges_of (Begins n low high) = some (ranges n low high)
+ranges_of Nothing = None
+ranges_of (Begins n low high) = Some (ranges n low high)
 
 abbrev pub piece_of : Piece → Utf8.Piece
 piece_of (Sequence n) = sequence n

@@ -3,7 +3,7 @@
 use Prim.Native.Nat.{ℕ, ◌+◌}
 use native.Mathlib.Omega.{arith}
 use mathlib.Core.Path.{ap₂, sym, ◌∙◌}
-use mathlib.Core.Option.{Option}
+use Rattle.std.specs.Prelude.{Option}
 use Rattle.lsm_format.specs.Words.{word}
 use Rattle.lsm_format.proofs.Words.{told_value, told_overflow, word_some, word_none, word_over}
 use Rattle.lsm_channel_colors.proofs.color_place.Goals as goal

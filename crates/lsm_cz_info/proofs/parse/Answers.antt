@@ -2,7 +2,7 @@
 -- Assumes nothing.
 use native.Mathlib.Omega.{arith}
 use mathlib.Core.Bool.{true}
-use mathlib.Core.Option.{none}
+use Rattle.std.specs.Prelude.{None}
 use mathlib.Core.Path.{◌≡◌, sym, ap, ◌∙◌}
 use lib.Dec.{leb}
 use lib.IntN.{nat_abs}
@@ -75,7 +75,7 @@ read_shots-requires c =
 
 pub returns-in-Refused-read_shots : goal.returns-in-Refused-read_shots
 returns-in-Refused-read_shots c =
-    let place_is : from (leb 112 c.in-Length.n) (channel_block (order_of c.args.e) (c.args.buf.now) (c.args.tag.offset)) none ≡ accepted (block_of c.in-Block.at) = told channel_of c.read_channel_block.ensures c.in-Block.is in
+    let place_is : from (leb 112 c.in-Length.n) (channel_block (order_of c.args.e) (c.args.buf.now) (c.args.tag.offset)) None ≡ accepted (block_of c.in-Block.at) = told channel_of c.read_channel_block.ensures c.in-Block.is in
     let sizes_is : from (leb 64 c.in-Length.n) (voxels (order_of c.args.e) (c.args.buf.now) (c.args.tag.offset)) uncalibrated ≡ accepted (calibration_of c.in-Sizes.c) = told voxels_of c.read_voxels.ensures c.in-Sizes.is in
     let test_is : stated (stated_of c.in-Extents.d) ≡ true = sym c.is_stated.ensures ∙ not-false _ c.if-not-is_stated.false-raw in
     let dims_is : extents (order_of c.args.e) (c.args.buf.now) (c.args.tag.offset) ≡ accepted (stated_of c.in-Extents.d) = told extents_of c.read_extents.ensures c.in-Extents.is in
@@ -115,7 +115,7 @@ overflow_cast-result-5 c =
 
 pub returns : goal.returns
 returns c =
-    let place_is : from (leb 112 c.in-Length.n) (channel_block (order_of c.args.e) (c.args.buf.now) (c.args.tag.offset)) none ≡ accepted (block_of c.in-Block.at) = told channel_of c.read_channel_block.ensures c.in-Block.is in
+    let place_is : from (leb 112 c.in-Length.n) (channel_block (order_of c.args.e) (c.args.buf.now) (c.args.tag.offset)) None ≡ accepted (block_of c.in-Block.at) = told channel_of c.read_channel_block.ensures c.in-Block.is in
     let sizes_is : from (leb 64 c.in-Length.n) (voxels (order_of c.args.e) (c.args.buf.now) (c.args.tag.offset)) uncalibrated ≡ accepted (calibration_of c.in-Sizes.c) = told voxels_of c.read_voxels.ensures c.in-Sizes.is in
     let dims_is : extents (order_of c.args.e) (c.args.buf.now) (c.args.tag.offset) ≡ accepted (stated_of c.in-Extents.d) = told extents_of c.read_extents.ensures c.in-Extents.is in
     let header_is : header (order_of c.args.e) (c.args.buf.now) (c.args.tag.offset) c.args.tag.declared_bytes ≡ accepted c.in-Length.n = told length_of c.read_header.ensures c.in-Length.is in

@@ -3,7 +3,7 @@
 use native.Mathlib.Omega.{arith}
 use Prim.Native.Nat.{ℕ, ◌*◌}
 use mathlib.Core.Path.{◌≡◌, sym, ap, ◌∙◌}
-use mathlib.Core.Option.{some}
+use Rattle.std.specs.Prelude.{Some}
 use Rattle.lsm_format.specs.Words.{word}
 use Rattle.lsm_format.specs.Picture.{strips_per_page}
 use Rattle.lsm_format.proofs.Words.{told_value, told_overflow, word_some}
@@ -17,12 +17,12 @@ returns-in_default c =
 
 pub overflow_mul-page : goal.overflow_mul-page
 overflow_mul-page c =
-    let strips_told : word (strips_per_page (description_of c.args.d)) ≡ some c.in-Value.strips = told_value _ c.checked_mul.ensures c.in-Value.is in
+    let strips_told : word (strips_per_page (description_of c.args.d)) ≡ Some c.in-Value.strips = told_value _ c.checked_mul.ensures c.in-Value.is in
     omega (arith, page_room (description_of c.args.d) _ _ _ strips_told (sym c.has_page.ensures ∙ c.if-has_page.true))
 
 pub whole_channels-requires : goal.whole_channels-requires
 whole_channels-requires c =
-    let strips_told : word (strips_per_page (description_of c.args.d)) ≡ some c.in-Value.strips = told_value _ c.checked_mul.ensures c.in-Value.is in
+    let strips_told : word (strips_per_page (description_of c.args.d)) ≡ Some c.in-Value.strips = told_value _ c.checked_mul.ensures c.in-Value.is in
     let q = (word_some _ _ strips_told).0 in
     record {
       start_value = (ap (λ (k : ℕ). c.args.page * k) q, c.requires.0, c.requires.1);
@@ -31,10 +31,10 @@ whole_channels-requires c =
 
 pub returns-then-has_page : goal.returns-then-has_page
 returns-then-has_page c =
-    let strips_told : word (strips_per_page (description_of c.args.d)) ≡ some c.in-Value.strips = told_value _ c.checked_mul.ensures c.in-Value.is in
+    let strips_told : word (strips_per_page (description_of c.args.d)) ≡ Some c.in-Value.strips = told_value _ c.checked_mul.ensures c.in-Value.is in
     page_by_channels (description_of c.args.d) _ _ _ strips_told (sym c.has_page.ensures ∙ c.if-has_page.true) _ c.whole_channels.ensures
 
 pub returns-else-has_page : goal.returns-else-has_page
 returns-else-has_page c =
-    let strips_told : word (strips_per_page (description_of c.args.d)) ≡ some c.in-Value.strips = told_value _ c.checked_mul.ensures c.in-Value.is in
+    let strips_told : word (strips_per_page (description_of c.args.d)) ≡ Some c.in-Value.strips = told_value _ c.checked_mul.ensures c.in-Value.is in
     page_out (description_of c.args.d) c.args.table.now _ _ strips_told (sym c.has_page.ensures ∙ c.if-has_page.false)

@@ -2,7 +2,7 @@
 -- Then the pages decide; their rows have bytes and fit. Assumes nothing.
 use native.Mathlib.Omega.{arith}
 use mathlib.Core.Path.{◌≡◌, ◌∙◌}
-use mathlib.Core.Option.{some}
+use Rattle.std.specs.Prelude.{Some}
 use Rattle.lsm_format.specs.Words.{word}
 use Rattle.lsm_format.specs.Picture.{row_bytes}
 use Rattle.lsm_format.proofs.Words.{told_value, told_overflow, word_some}
@@ -18,20 +18,20 @@ returns-in_default c =
 
 pub returns-then-row-eq0 : goal.returns-then-row-eq0
 returns-then-row-eq0 c =
-    let row_told : word (row_bytes (description_of c.args.d)) ≡ some c.in-Value.row = rw c.size_bytes.ensures at (told_value _ c.checked_mul.ensures c.in-Value.is) in
+    let row_told : word (row_bytes (description_of c.args.d)) ≡ Some c.in-Value.row = rw c.size_bytes.ensures at (told_value _ c.checked_mul.ensures c.in-Value.is) in
     whole_empty _ _ _ row_told c.if-row-eq0.true
 
 pub whole_pages-requires : goal.whole_pages-requires
 whole_pages-requires c =
-    let row_told : word (row_bytes (description_of c.args.d)) ≡ some c.in-Value.row = rw c.size_bytes.ensures at (told_value _ c.checked_mul.ensures c.in-Value.is) in
+    let row_told : word (row_bytes (description_of c.args.d)) ≡ Some c.in-Value.row = rw c.size_bytes.ensures at (told_value _ c.checked_mul.ensures c.in-Value.is) in
     ((word_some _ _ row_told).0, omega (arith, c.if-row-eq0.false))
 
 pub returns-in-Pages : goal.returns-in-Pages
 returns-in-Pages c =
-    let row_told : word (row_bytes (description_of c.args.d)) ≡ some c.in-Value.row = rw c.size_bytes.ensures at (told_value _ c.checked_mul.ensures c.in-Value.is) in
+    let row_told : word (row_bytes (description_of c.args.d)) ≡ Some c.in-Value.row = rw c.size_bytes.ensures at (told_value _ c.checked_mul.ensures c.in-Value.is) in
     c.whole_pages.ensures ∙ whole_by _ _ _ row_told c.if-row-eq0.false _ (told pages_of c.expected_pages.ensures c.in-Pages.is)
 
 pub returns-in-Refused : goal.returns-in-Refused
 returns-in-Refused c =
-    let row_told : word (row_bytes (description_of c.args.d)) ≡ some c.in-Value.row = rw c.size_bytes.ensures at (told_value _ c.checked_mul.ensures c.in-Value.is) in
+    let row_told : word (row_bytes (description_of c.args.d)) ≡ Some c.in-Value.row = rw c.size_bytes.ensures at (told_value _ c.checked_mul.ensures c.in-Value.is) in
     whole_many _ _ _ row_told c.if-row-eq0.false _ (told pages_of c.expected_pages.ensures c.in-Refused.is)
