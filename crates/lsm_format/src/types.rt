@@ -108,10 +108,7 @@ impl PixelRect {
     pub fn is_empty(self) -> bool
         ensures { result ≡ is_empty (rect_of self) }
     {
-        if self.w == 0 {
-            return true;
-        }
-        self.h == 0
+        self.w == 0 || self.h == 0
     }
 }
 
