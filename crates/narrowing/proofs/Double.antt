@@ -154,10 +154,11 @@ module _ (b : ℕ) where
       go true l k = let g = l tt in omega arith
       go false l k = let g = k tt in omega arith
 
-  pub of_finite : (r : ℕ) → b < 2 ^ 64 → exponent < 2047 → r ≡ written false exponent fraction
-      → b / 2 ^ 63 * 2 ^ 31 + r ≡ to_bits binary32 (narrow (of_bits binary64 b))
-  of_finite r h X e =
-      rw (sign_moved h, e, unsigned exponent fraction X (mask_lt b 52))
+  pub of_finite : b < 2 ^ 64 → (exponent ≡ 2047 → ⊥)
+      → b / 2 ^ 63 * 2 ^ 31 + written false exponent fraction ≡ to_bits binary32 (narrow (of_bits binary64 b))
+  of_finite h q =
+      let X : exponent < 2047 = omega (arith, mask_lt (b / 2 ^ 52) 11) in
+      rw (sign_moved h, unsigned exponent fraction X (mask_lt b 52))
       (sym (by_fields ∙ fields (leb (2 ^ 63) b) exponent fraction X (mask_lt b 52)))
 
   pub of_infinity : b < 2 ^ 64 → exponent ≡ 2047 → fraction ≡ 0

@@ -1,6 +1,6 @@
 -- A fraction to the nearest whole number, by the three ways that twice the remainder can compare with the divisor, and these
 -- numbers as shifts and masks give them. Assumes nothing.
-use mathlib.Core.Path.{◌≡◌, refl, ap, ◌∙◌, subst}
+use mathlib.Core.Path.{◌≡◌, refl, sym, ap, ◌∙◌, subst}
 use Prim.Native.Nat.{ℕ, suc, ◌+◌, ◌-◌, ◌*◌, ◌/◌, ◌%◌, ◌^◌, ◌≤◌, ◌<◌, suc-le-suc}
 use Prim.Native.Nat.{compare, Ordering}
 use native.Mathlib.Nat.{div-eq_of_lt, mod-eq_of_lt, mod-lt, one-mul, le_trans, lt_of_lt_of_le, div-le_self}
@@ -51,8 +51,8 @@ closest_down m u h = nearest_lt (m % u * 2) u (m / u) h
 pub closest_up : (m u : ℕ) → u < m % u * 2 → closest m u ≡ suc (m / u)
 closest_up m u h = nearest_gt (m % u * 2) u (m / u) h
 
-pub closest_tie : (m u : ℕ) → m % u * 2 ≡ u → closest m u ≡ m / u + m / u % 2
-closest_tie m u h = nearest_eq (m % u * 2) u (m / u) h
+pub closest_tie : (m u : ℕ) → m % u * 2 ≡ u → closest m u ≡ m / u + bit_and (m / u) 1
+closest_tie m u h = nearest_eq (m % u * 2) u (m / u) h ∙ ap (λ (y : ℕ). m / u + y) (sym (and_mask (m / u) 1))
 
 -- rounding adds one at most
 pub closest_le : (m u : ℕ) → closest m u ≤ suc m

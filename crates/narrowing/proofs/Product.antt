@@ -102,11 +102,11 @@ narrowed b r e =
     ∙ of_bits-to_bits binary32 (narrow p) (narrow_fits p)
     ∙ ap (λ (v : Float). narrow (mul binary64 (of_bits binary64 b) v)) factor
 
-pub narrowed_number : (b r : ℕ) → T (not (nan_bits binary64 b)) → r ≡ pattern b → T (not (nan_bits binary32 r))
+pub narrowed_number : (b : ℕ) → T (not (nan_bits binary64 b)) → T (not (nan_bits binary32 (pattern b)))
 unfolding micrometres
-narrowed_number b r h e =
+narrowed_number b h =
     let v = of_bits binary64 b in
-    rw (nan_bits_is binary32 r, narrowed b r e)
+    rw (nan_bits_is binary32 (pattern b), narrowed b (pattern b) refl)
     (narrow_number (mul binary64 v million) (mul_number v (rw (nan_bits_is binary64 b) at h)))
 
 -- what is no NaN has no NaN's micrometres

@@ -1,9 +1,8 @@
--- What the code's types mean in the definitions' terms.
-use Rattle.std.specs.Prelude.{Float}
+-- What an answer means in the definitions' terms.
+use Rattle.std.specs.Prelude.{Float, Option, None, Some}
 use Rattle.std.specs.Float.{nan}
-use Rattle.narrowing.specs.declared.Micrometres.{Micrometres}
-use Rattle.narrowing.specs.declared.Micrometres.TheVariants.{Value, NotANumber}
 
-abbrev pub float_of : Micrometres → Float
-float_of (Value x) = x
-float_of NotANumber = nan
+-- The number that there may be; where there is none, a NaN.
+abbrev pub float_of : Option Float → Float
+float_of None = nan
+float_of (Some x) = x

@@ -10,6 +10,7 @@ ghost use Rattle.narrowing.specs.Code.{float_of};
 
 // m without that many of its last binary digits, nearest with halves to even. Where more than 54 go, all of m is less
 // than a half.
+#[tactic(auto, using(crate::proofs::Halves::closest_far, crate::proofs::Halves::closest_down, crate::proofs::Halves::closest_up, crate::proofs::Halves::closest_tie, crate::proofs::Halves::unit_is, crate::proofs::Halves::twice_is))]
 fn without_last(m: u64, digits: u64) -> u64
     requires { m < 2 ^ 53 }
     ensures { result ≡ closest m (2 ^ digits) }
@@ -31,7 +32,7 @@ fn without_last(m: u64, digits: u64) -> u64
 
 // The f32 pattern of a finite double, without the sign. The leading digit of what is kept adds one to the exponent's
 // field, and a carry adds one more, so the two parts are added.
-#[tactic(auto, using(crate::proofs::Double::written_high))]
+#[tactic(auto, using(crate::proofs::Double::written_high, crate::proofs::Double::pattern_low, crate::proofs::Double::pattern_subnormal, crate::proofs::Double::answer))]
 fn magnitude(exponent: u64, fraction: u64) -> u64
     requires { (exponent < 2047) × (fraction < 2 ^ 52) }
     ensures { (result ≡ to_bits binary32 (narrow (of_fields binary64 false exponent fraction))) × (result ≤ 0x7f80_0000) }
@@ -62,6 +63,7 @@ fn signed(sign: u64, pattern: u64) -> u32
 }
 
 // The f32 pattern of what a 64-bit pattern stands for, nearest with halves to even; a NaN's is 7fc00000.
+#[tactic(auto, using(crate::proofs::Double::of_finite, crate::proofs::Double::of_infinity, crate::proofs::Double::of_nan))]
 pub fn narrow_bits(bits: u64) -> u32
     ensures { result ≡ to_bits binary32 (narrow (of_bits binary64 bits)) }
 {
@@ -77,22 +79,16 @@ pub fn narrow_bits(bits: u64) -> u32
     signed(sign, magnitude(exponent, fraction))
 }
 
-#[derive(Clone, Copy)]
-pub enum Micrometres {
-    Value(f32),
-    NotANumber,
-}
-
-// The micrometres of the 64-bit pattern of a voxel size in metres: one product in f64, then narrowed.
-#[tactic(auto, using(crate::proofs::Product::refused))]
-pub fn to_micrometres(bits: u64) -> Micrometres
+// The micrometres of the 64-bit pattern of a voxel size in metres: one product in f64, then narrowed. None is a NaN.
+#[tactic(auto, using(crate::proofs::Product::refused, crate::proofs::Product::taken, crate::proofs::Product::product_number, crate::proofs::Product::narrowed, crate::proofs::Product::narrowed_number))]
+pub fn to_micrometres(bits: u64) -> Option<f32>
     ensures { float_of result ≡ micrometres bits }
 {
     // without its sign a NaN's pattern is above the infinity's; no float is made of it
     if 0x7ff0_0000_0000_0000 < (bits & 0x7fff_ffff_ffff_ffff) {
-        return Micrometres::NotANumber;
+        return None;
     }
     let product = f64::from_bits(bits) * 1000000.0;
-    let narrowed = narrow_bits(f64::to_bits(product));
-    Micrometres::Value(f32::from_bits(narrowed))
+    let narrowed = narrow_bits(product.to_bits());
+    Some(f32::from_bits(narrowed))
 }
