@@ -1,4 +1,3 @@
 pub mod Limbs
 pub mod Powers
-pub mod Texts
 pub mod Fractions

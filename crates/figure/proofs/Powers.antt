@@ -269,13 +269,21 @@ figure_by_lem num den top a bottom b q up low e =
     ∙ ap (λ (z : ℕ). figure_by (tens_above 64 num den) z num den) low.right
 
 -- A pattern's fraction is near 1, as 64 powers of ten go.
-pub near : (m k u v : ℕ) → 0 < m → m < 2 ^ 24 → k < 254 → u ≡ m * 2 ^ k → v ≡ 1 * 2 ^ 149 → Near u v
-near m k u v p h l e f =
-    let s : u < 2 ^ 277 = doubled_small m k u h l e in
-    let o : 1 ≤ u = rw e (mul-pos p (pow_pos k)) in
+pub near : (m k v : ℕ) → 0 < m → m < 2 ^ 24 → k < 254 → v ≡ 1 * 2 ^ 149 → Near (m * 2 ^ k) v
+near m k v p h l f =
+    let u = m * 2 ^ k in
+    let s : u < 2 ^ 277 = doubled_small m k u h l refl in
+    let o : 1 ≤ u = mul-pos p (pow_pos k) in
     record {
-      num_room = doubled_fits m k u h l e;
+      num_room = doubled_fits m k u h l refl;
       den_room = doubled_fits 1 149 v (lit< tt) (lit< tt) f;
       below_tens = rw f (lt_of_lt_of_le s (lit≤ {m = 2 ^ 277} {n = 1 * 2 ^ 149 * 10 ^ 64} tt));
       above_tens = rw f (le_trans (lit≤ {m = 1 * 2 ^ 149} {n = 1 * 10 ^ 64} tt) (mul-le-mul_right (10 ^ 64) o));
     }
+
+-- The same of a pattern above 0 whose field is 0.
+pub near_small : (b v : ℕ) → (b ≡ 0 → ⊥) → b / 2 ^ 23 ≡ 0 → v ≡ 1 * 2 ^ 149 → Near (b % 2 ^ 23) v
+near_small b v n z f =
+    let p : 0 < b % 2 ^ 23 = omega arith in
+    let l : b % 2 ^ 23 < 2 ^ 24 = omega arith in
+    rw (mul-one (b % 2 ^ 23)) at (near (b % 2 ^ 23) 0 v p l (lit< tt) f)

@@ -1,2 +1,1 @@
-pub mod Figured
 pub mod Wide

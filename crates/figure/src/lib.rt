@@ -3,11 +3,13 @@
 #![tactic(auto)]
 
 ghost use Rattle.std.specs.Prelude.{◌≡◌, List, [], ◌∷◌, ◌++◌, ℕ, ◌+◌, ◌*◌, ◌^◌, ◌≤◌, ◌<◌, leb, pos, ◌-ℤ◌};
+ghost use Rattle.arrayvec.specs.ArrayVec.{array_vec_len};
 ghost use Rattle.std.specs.Float.{binary32};
 ghost use Rattle.std.specs.Float.Ieee.{of_bits};
-ghost use Rattle.lsm_format.specs.Calibration.{figure, tens_above, tens_below, hundredfold, mantissa, two_digits, exponent_text, figure_text};
-ghost use Rattle.figure.specs.Figured.{Figured};
+ghost use Rattle.lsm_format.specs.Calibration.{figure, tens_above, tens_below, hundredfold, digit, mantissa, two_digits, exponent_text, figure_text};
 ghost use Rattle.figure.specs.Wide.{value, room, Taken, Scaled, Divided, Quotient, Hundreds, Near, figure_of};
+
+use arrayvec::ArrayVec;
 
 // A limb, and what goes over to the next.
 #[derive(Clone, Copy)]
@@ -217,92 +219,79 @@ fn hundreds(num: [u32; 9], den: [u32; 9]) -> u32
     q
 }
 
-// A figure's text: the first `len` of `bytes`; the others are 0.
-#[derive(Clone, Copy)]
-pub struct Figure {
-    pub bytes: [u8; 8],
-    pub len: usize,
-}
-
-// One byte more.
-fn push(f: Figure, b: u8) -> Figure
-    requires { f.len < 8 }
-    ensures counted { result.len ≡ f.len + 1 }
-    ensures by_index { (t : List ℕ) → Figured t f.bytes f.len → Figured (t ++ b ∷ []) result.bytes result.len }
-{
-    let mut bytes = f.bytes;
-    let at = f.len;
-    bytes[at] = b;
-    Figure { bytes, len: at + 1 }
-}
-
 // A digit as a letter.
 fn letter(n: u32) -> u8
     requires { n < 10 }
-    ensures { result ≡ 48 + n }
+    ensures { result ≡ digit n }
 {
-    48 + n as u8
+    b'0' + n as u8
 }
 
 // The digits with a point after the first, and no zero at the end.
-fn point_text(q: u32) -> Figure
+fn point_text(q: u32) -> ArrayVec<u8, 8>
     requires { q < 1000 }
-    ensures short { result.len ≤ 4 }
-    ensures figured { Figured (mantissa q) result.bytes result.len }
+    ensures short { array_vec_len result ≤ 4 }
+    ensures digits { result.items ≡ mantissa q }
 {
-    let none = Figure {
-        bytes: [0; 8],
-        len: 0,
-    };
-    let ones = push(none, letter(q / 100));
+    let mut text = ArrayVec::new();
+    text.push(letter(q / 100));
     if q % 100 == 0 {
-        return ones;
+        return text;
     }
-    let tens = push(push(ones, b'.'), letter(q / 10 % 10));
+    text.push(b'.');
+    text.push(letter(q / 10 % 10));
     if q % 10 == 0 {
-        return tens;
+        return text;
     }
-    push(tens, letter(q % 10))
+    text.push(letter(q % 10));
+    text
 }
 
 // Two digits, or one where the first is zero.
-fn count_text(f: Figure, n: u32) -> Figure
-    requires { (f.len ≤ 6) × (n < 100) }
-    ensures { (t : List ℕ) → Figured t f.bytes f.len → Figured (t ++ two_digits n) result.bytes result.len }
+fn push_count(text: &mut ArrayVec<u8, 8>, n: u32)
+    requires { (array_vec_len text.old ≤ 6) × (n < 100) }
+    ensures { text.new.items ≡ text.old.items ++ two_digits n }
 {
     if 10 <= n {
-        return push(push(f, letter(n / 10)), letter(n % 10));
+        text.push(letter(n / 10));
     }
-    push(f, letter(n))
+    text.push(letter(n % 10));
 }
 
 // The power of ten: `above` less `below`.
-fn power_text(f: Figure, above: u32, below: u32) -> Figure
-    requires { (f.len ≤ 4) × (above < 100) × (below < 100) }
-    ensures { (t : List ℕ) → Figured t f.bytes f.len → Figured (t ++ 101 ∷ exponent_text (pos above -ℤ pos below)) result.bytes result.len }
+fn push_power(text: &mut ArrayVec<u8, 8>, above: u32, below: u32)
+    requires { (array_vec_len text.old ≤ 4) × (above < 100) × (below < 100) }
+    ensures { text.new.items ≡ text.old.items ++ 101 ∷ exponent_text (pos above -ℤ pos below) }
 {
-    let e = push(f, b'e');
+    text.push(b'e');
     if below <= above {
-        return count_text(e, above - below);
+        push_count(text, above - below);
+    } else {
+        text.push(b'-');
+        push_count(text, below - above);
     }
-    count_text(push(e, b'-'), below - above)
 }
 
 // Three digits that rounded up to 1000 are 100 of the next power.
-fn text(q: u32, above: u32, below: u32) -> Figure
+fn text(q: u32, above: u32, below: u32) -> ArrayVec<u8, 8>
     requires { (q ≤ 1000) × (above < 99) × (below < 99) }
-    ensures { Figured (figure_text q (pos above -ℤ pos below)) result.bytes result.len }
+    ensures { result.items ≡ figure_text q (pos above -ℤ pos below) }
 {
     if q == 1000 {
-        return power_text(point_text(100), above + 1, below);
+        let mut text = point_text(100);
+        push_power(&mut text, above + 1, below);
+        return text;
     }
-    power_text(point_text(q), above, below)
+    let mut text = point_text(q);
+    push_power(&mut text, above, below);
+    text
 }
 
 // The figure of num / den, which is at most 64 powers of ten from 1.
-fn fraction_text(num: [u32; 9], den: [u32; 9]) -> Figure
+#[tactic(auto, using(crate::proofs::Powers::between))]
+fn fraction_text(num: [u32; 9], den: [u32; 9]) -> ArrayVec<u8, 8>
     requires { Near (value num) (value den) }
-    ensures { Figured (figure_of (value num) (value den)) result.bytes result.len }
+    ensures { result.items ≡ figure_of (value num) (value den) }
 {
     let up = above(num, den, 64);
     let down = below(num, den, 64);
@@ -312,20 +301,12 @@ fn fraction_text(num: [u32; 9], den: [u32; 9]) -> Figure
 }
 
 // The figure of the f32 with this pattern, and none where it is not above 0 or not finite.
-pub fn short_exponential(bits: u32) -> Figure
-    ensures { Figured (figure (of_bits binary32 bits)) result.bytes result.len }
+#[tactic(auto, using(crate::proofs::Fractions::figure_zero, crate::proofs::Fractions::figure_none, crate::proofs::Fractions::figure_tiny, crate::proofs::Fractions::figure_normal, crate::proofs::Powers::near, crate::proofs::Powers::near_small))]
+pub fn short_exponential(bits: u32) -> ArrayVec<u8, 8>
+    ensures { result.items ≡ figure (of_bits binary32 bits) }
 {
-    if bits == 0 {
-        return Figure {
-            bytes: [0; 8],
-            len: 0,
-        };
-    }
-    if 0x7f80_0000 <= bits {
-        return Figure {
-            bytes: [0; 8],
-            len: 0,
-        };
+    if bits == 0 || 0x7f80_0000 <= bits {
+        return ArrayVec::new();
     }
     // The value is the mantissa doubled field - 1 times, over 2 ^ 149: a field of 0 counts as 1 and has no leading bit.
     let field = bits / 0x80_0000;
