@@ -1,11 +1,10 @@
 -- What the calibration's types mean in the definitions' terms.
-use Rattle.std.specs.Prelude.{ℕ, List, []}
+use Rattle.std.specs.Prelude.{ℕ, List, [], Option, None, Some}
 use Rattle.lsm_format.specs.Calibration as Rule
 use Rattle.lsm_format.specs.Calibration.{used, absent, placeholder, too_large, uncalibrated, sized, figure}
 use Rattle.calibration.specs.declared.ZStep.{ZStep}
 use Rattle.calibration.specs.declared.ZStep.TheVariants.{Used, Absent, Placeholder, TooLarge}
 use Rattle.calibration.specs.declared.Calibration.{Calibration}
-use Rattle.calibration.specs.declared.Calibration.TheVariants.{Uncalibrated, Sized}
 
 abbrev pub step_of : ZStep → Rule.ZStep
 step_of (Used z) = used z
@@ -13,9 +12,9 @@ step_of Absent = absent
 step_of (Placeholder z) = placeholder z
 step_of (TooLarge z) = too_large z
 
-abbrev pub calibration_of : Calibration → Rule.Calibration
-calibration_of Uncalibrated = uncalibrated
-calibration_of (Sized x y z) = sized x y (step_of z)
+abbrev pub calibration_of : Option Calibration → Rule.Calibration
+calibration_of None = uncalibrated
+calibration_of (Some c) = sized c.x c.y (step_of c.z)
 
 -- The figure of the note that a step gives; none where it gives no note.
 abbrev pub note_text : ZStep → List ℕ

@@ -1,14 +1,19 @@
 // Voxel sizes, the Z step and the figure of its note.
 #![tactic(auto)]
 
-ghost use Rattle.std.specs.Prelude.{◌≡◌, []};
+ghost use Rattle.std.specs.Prelude.{◌≡◌};
 ghost use Rattle.lsm_format.specs.Calibration.{calibration, above_nought, z_step, figure};
 ghost use Rattle.narrowing.specs.Code.{float_of};
 ghost use Rattle.calibration.specs.Calibrated.{calibration_of, step_of, note_text};
-ghost use Rattle.figure.specs.Figured.{Figured};
 
-use figure::{Figure, short_exponential};
-use narrowing::{Micrometres, to_micrometres};
+use arrayvec::ArrayVec;
+use figure::short_exponential;
+use narrowing::to_micrometres;
+
+// The smallest and the largest Z step, in micrometres, that a microscope could have measured.
+const MIN_PLAUSIBLE_Z_STEP_UM: f32 = 1e-6;
+
+const MAX_PLAUSIBLE_Z_STEP_UM: f32 = 1000.0;
 
 // What a file's Z step became, in micrometres: it is used; there is none; there is none, and a note says that the step which the
 // file states is a placeholder or too large.
@@ -20,14 +25,16 @@ pub enum ZStep {
     TooLarge(f32),
 }
 
-// The pixel size in micrometres, where the file states one.
+// The pixel size in micrometres.
 #[derive(Clone, Copy)]
-pub enum Calibration {
-    Uncalibrated,
-    Sized { x: f32, y: f32, z: ZStep },
+pub struct Calibration {
+    pub x: f32,
+    pub y: f32,
+    pub z: ZStep,
 }
 
 // Whether the f64 with this pattern is above 0.
+#[tactic(auto, using(narrowing::proofs::Product::taken, crate::proofs::Steps::above_nan, crate::proofs::Steps::above_is))]
 fn above_zero(bits: u64) -> bool
     ensures { result ≡ above_nought bits }
 {
@@ -38,86 +45,60 @@ fn above_zero(bits: u64) -> bool
     0.0 < f64::from_bits(bits)
 }
 
-// What a step in micrometres becomes.
-fn step(um: f32) -> ZStep
-    ensures { step_of result ≡ z_step um }
-{
-    if um <= 0.0 {
-        return ZStep::Absent;
-    }
-    // a NaN is below nothing
-    if um < f32::from_bits(0x7f80_0000) {
-        if um < 1e-6 {
-            return ZStep::Placeholder(um);
-        }
-        if 1000.0 < um {
-            return ZStep::TooLarge(um);
-        }
-        return ZStep::Used(um);
-    }
-    ZStep::Absent
-}
-
-fn resolve_z_step(um: Micrometres) -> ZStep
+// What a step in micrometres becomes; one that is a NaN has no value.
+#[tactic(auto, using(crate::proofs::Steps::step_endless, crate::proofs::Steps::step_below, crate::proofs::Steps::step_placeholder, crate::proofs::Steps::step_large, crate::proofs::Steps::step_used, crate::proofs::Steps::step_nan))]
+fn resolve_z_step(um: Option<f32>) -> ZStep
     ensures { step_of result ≡ z_step (float_of um) }
 {
-    match um {
-        Micrometres::Value(z) => step(z),
-        Micrometres::NotANumber => ZStep::Absent,
+    let Some(um) = um else {
+        return ZStep::Absent;
+    };
+    if !um.is_finite() || um <= 0.0 {
+        ZStep::Absent
+    } else if um < MIN_PLAUSIBLE_Z_STEP_UM {
+        ZStep::Placeholder(um)
+    } else if MAX_PLAUSIBLE_Z_STEP_UM < um {
+        ZStep::TooLarge(um)
+    } else {
+        ZStep::Used(um)
     }
 }
 
-// The calibration of three voxel sizes in metres, each by its 64-bit pattern.
-pub fn calibrate(vx: u64, vy: u64, vz: u64) -> Calibration
+// The calibration of three voxel sizes in metres, each by its 64-bit pattern; None where the file states no pixel size.
+#[tactic(auto, using(crate::proofs::Steps::no_x, crate::proofs::Steps::no_y, crate::proofs::Steps::nan_x, crate::proofs::Steps::nan_y, crate::proofs::Steps::sized_is))]
+pub fn calibrate(vx: u64, vy: u64, vz: u64) -> Option<Calibration>
     ensures { calibration_of result ≡ calibration vx vy vz }
 {
-    if !above_zero(vx) {
-        return Calibration::Uncalibrated;
-    }
-    if !above_zero(vy) {
-        return Calibration::Uncalibrated;
+    if !above_zero(vx) || !above_zero(vy) {
+        return None;
     }
     // what is above 0 is no NaN, so both have a value
-    let Micrometres::Value(x) = to_micrometres(vx) else {
-        return Calibration::Uncalibrated;
-    };
-    let Micrometres::Value(y) = to_micrometres(vy) else {
-        return Calibration::Uncalibrated;
-    };
-    Calibration::Sized {
+    let x = to_micrometres(vx)?;
+    let y = to_micrometres(vy)?;
+    Some(Calibration {
         x,
         y,
         z: resolve_z_step(to_micrometres(vz)),
-    }
-}
-
-fn no_figure() -> Figure
-    ensures { Figured [] result.bytes result.len }
-{
-    Figure {
-        bytes: [0; 8],
-        len: 0,
-    }
+    })
 }
 
 // The figure of any f32, a NaN's too: there is none.
-fn step_figure(um: f32) -> Figure
-    ensures { Figured (figure um) result.bytes result.len }
+#[tactic(auto, using(crate::proofs::Steps::figure_nan, crate::proofs::Steps::figure_bits))]
+fn step_figure(um: f32) -> ArrayVec<u8, 8>
+    ensures { result.items ≡ figure um }
 {
-    if um != um {
-        return no_figure();
+    if um.is_nan() {
+        return ArrayVec::new();
     }
-    short_exponential(f32::to_bits(um))
+    short_exponential(um.to_bits())
 }
 
 // The figure of the note on a Z step; empty where there is no note.
-pub fn note_figure(z: ZStep) -> Figure
-    ensures { Figured (note_text z) result.bytes result.len }
+pub fn note_figure(z: ZStep) -> ArrayVec<u8, 8>
+    ensures { result.items ≡ note_text z }
 {
     match z {
-        ZStep::Used(_) => no_figure(),
-        ZStep::Absent => no_figure(),
-        ZStep::Placeholder(um) => step_figure(um),
-        ZStep::TooLarge(um) => step_figure(um),
+        ZStep::Used(_) | ZStep::Absent => ArrayVec::new(),
+        ZStep::Placeholder(um) | ZStep::TooLarge(um) => step_figure(um),
     }
 }
