@@ -1,29 +1,20 @@
 // Lossy decoding of UTF-8 into lent memory.
 #![tactic(auto)]
 
-ghost use Rattle.std.specs.Prelude.{◌≡◌, ◌-◌, ◌^◌, ◌<◌, ◌≤◌, min, length, drop};
-ghost use Rattle.lsm_format.specs.Utf8.{lossy, well_formed, followers_in, matched};
-ghost use Rattle.utf8.specs.Code.{decoded_of, Decoding};
-ghost use Rattle.utf8.specs.Pieces.{ranges, ranges_of, piece_of, taken, given, text_at, Stands};
+ghost use Rattle.std.specs.Prelude.{◌≡◌, ◌-◌, ◌^◌, ◌≤◌, min, length, option_map};
+ghost use Rattle.std.specs.Iterator.{at_most};
+ghost use Rattle.lsm_format.specs.Code.{answer_of};
+ghost use Rattle.lsm_format.specs.Utf8.{lossy, well_formed, followers_in, matched, piece, after};
+ghost use Rattle.utf8.specs.Code.{Decoding};
+ghost use Rattle.utf8.specs.Pieces.{piece_of, texts_steps};
 
 use lsm_format::error::Refusal;
 
-const LARGEST: usize = 0xffff_ffff_ffff_ffff;
+// U+FFFD.
+const REPLACEMENT: &[u8] = b"\xEF\xBF\xBD";
 
-// How many bytes were written, or why none were.
-#[derive(Clone, Copy)]
-pub enum Decoded {
-    Length(usize),
-    Refused(Refusal),
-}
-
-// A row of Unicode's Table 3-7, as its first byte tells: how many bytes follow, and the range of the first that does. The
-// others are 80 to BF (hex) in every row.
-#[derive(Clone, Copy)]
-enum Row {
-    Nothing,
-    Begins { followers: usize, low: u8, high: u8 },
-}
+// The range of a byte that follows, in every row but for the first follower of four rows.
+const TAIL: (u8, u8) = (0x80, 0xBF);
 
 // What stands at a place, with the number of bytes after its first.
 #[derive(Clone, Copy)]
@@ -32,163 +23,125 @@ enum Piece {
     Subpart(usize),
 }
 
-fn begins(followers: usize, low: u8, high: u8) -> Row
-    ensures { result ≡ Row.Begins followers low high }
+// The ranges of the bytes that follow a first byte, by its row of Unicode's Table 3-7.
+fn followers(first: u8) -> Option<&'static [(u8, u8)]>
+    ensures { option_map (λ rs. rs.now) result ≡ followers_in well_formed first }
 {
-    Row::Begins {
-        followers,
-        low,
-        high,
+    match first {
+        0x00..=0x7F => Some(&[]),
+        0xC2..=0xDF => Some(&[TAIL]),
+        0xE0 => Some(&[(0xA0, 0xBF), TAIL]),
+        0xE1..=0xEC => Some(&[TAIL, TAIL]),
+        0xED => Some(&[(0x80, 0x9F), TAIL]),
+        0xEE..=0xEF => Some(&[TAIL, TAIL]),
+        0xF0 => Some(&[(0x90, 0xBF), TAIL, TAIL]),
+        0xF1..=0xF3 => Some(&[TAIL, TAIL, TAIL]),
+        0xF4 => Some(&[(0x80, 0x8F), TAIL, TAIL]),
+        _ => None,
     }
 }
 
-// The row that a first byte begins.
-fn row_of(b: u8) -> Row
-    ensures { followers_in well_formed b ≡ ranges_of result }
+// How many of the bytes lie in their ranges, one after another.
+fn matching(ranges: &[(u8, u8)], bytes: &[u8]) -> usize
+    ensures is { result ≡ matched ranges.now bytes.now }
+    ensures inside { result ≤ length bytes.now }
 {
-    match b {
-        0x00..=0x7F => begins(0, 0, 0),
-        0xC2..=0xDF => begins(1, 0x80, 0xBF),
-        0xE0 => begins(2, 0xA0, 0xBF),
-        0xE1..=0xEC => begins(2, 0x80, 0xBF),
-        0xED => begins(2, 0x80, 0x9F),
-        0xEE..=0xEF => begins(2, 0x80, 0xBF),
-        0xF0 => begins(3, 0x90, 0xBF),
-        0xF1..=0xF3 => begins(3, 0x80, 0xBF),
-        0xF4 => begins(3, 0x80, 0x8F),
-        _ => Row::Nothing,
+    ranges
+        .iter()
+        .zip(bytes)
+        .take_while(|(range, b)| range.0 <= **b && **b <= range.1)
+        .count()
+}
+
+// What stands at a first byte, with these after it.
+#[tactic(auto, unfolding(lsm_format::specs::Utf8::piece))]
+fn piece_at(first: u8, others: &[u8]) -> Piece
+    ensures is { piece_of result ≡ piece first others.now }
+    ensures inside { after (piece_of result) ≤ length others.now }
+{
+    let Some(ranges) = followers(first) else {
+        return Piece::Subpart(0);
+    };
+    let n = matching(ranges, others);
+    if n == ranges.len() {
+        Piece::Sequence(n)
+    } else {
+        Piece::Subpart(n)
     }
 }
 
-// How many of the bytes from a place on lie in the ranges of a row, one after another.
-fn matching(s: &[u8], from: usize, count: usize, low: u8, high: u8) -> usize
-    requires { from ≤ length s.now }
-    ensures { result ≡ matched (ranges count low high) (drop from s.now) }
-{
-    let mut least = low;
-    let mut most = high;
-    let mut n = 0;
-    while n < count {
-        if s.len() - from <= n {
-            return n;
-        }
-        let b = s[from + n];
-        if b < least {
-            return n;
-        }
-        if most < b {
-            return n;
-        }
-        least = 0x80;
-        most = 0xBF;
-        n += 1;
-    }
-    n
+// The text that bytes decode to, piece by piece. std's `utf8_chunks` goes by what its encoder makes; here the rows of Table 3-7 stand
+// one by one, as in the definition.
+#[derive(Drop)]
+struct Texts<'a> {
+    rest: &'a [u8],
 }
 
-// What stands at a place.
-fn piece_at(s: &[u8], at: usize) -> Piece
-    requires { at < length s.now }
-    ensures { Stands s.now at result }
+fn texts_of(s: &[u8]) -> Texts<'_>
+    ensures { result.rest.now ≡ s.now }
 {
-    match row_of(s[at]) {
-        Row::Nothing => Piece::Subpart(0),
-        Row::Begins {
-            followers,
-            low,
-            high,
-        } => {
-            let n = matching(s, at + 1, followers, low, high);
-            if n == followers {
-                Piece::Sequence(n)
-            } else {
-                Piece::Subpart(n)
+    Texts { rest: s }
+}
+
+impl<'a> Iterator for Texts<'a> {
+    type Item = &'a [u8];
+
+    ghost next_gives = { texts_steps };
+
+    ghost remaining = { λ s. at_most (length s.rest.now) };
+
+    #[tactic(auto, using(crate::proofs::Text::lossy_sequence, crate::proofs::Text::lossy_subpart))]
+    fn next(&mut self) -> Option<&'a [u8]> {
+        let (first, others) = self.rest.split_first()?;
+        match piece_at(*first, others) {
+            Piece::Sequence(n) => {
+                let (text, rest) = self.rest.split_at(n + 1);
+                self.rest = rest;
+                Some(text)
+            }
+            Piece::Subpart(n) => {
+                self.rest = &others[n..];
+                Some(REPLACEMENT)
             }
         }
     }
 }
 
-// The bytes that a piece takes.
-fn taken_by(p: Piece) -> usize
-    requires { taken (piece_of p) < 2 ^ 64 }
-    ensures { result ≡ taken (piece_of p) }
-{
-    match p {
-        Piece::Sequence(n) => n + 1,
-        Piece::Subpart(n) => n + 1,
-    }
-}
-
-// The bytes that come out of a piece.
-fn given_by(p: Piece) -> usize
-    requires { taken (piece_of p) < 2 ^ 64 }
-    ensures { result ≡ given (piece_of p) }
-{
-    match p {
-        Piece::Sequence(n) => n + 1,
-        Piece::Subpart(_) => 3,
-    }
-}
-
 // The length of the text that the bytes decode to; 2^64 - 1 where it is longer than that.
+#[tactic(auto, using(crate::proofs::Text::lossy_empty))]
 pub fn lossy_length(s: &[u8]) -> usize
     ensures { result ≡ min (length (lossy s.now)) (2 ^ 64 - 1) }
 {
     let mut total: usize = 0;
-    let mut at = 0;
-    while at < s.len() {
-        let p = piece_at(s, at);
-        let n = given_by(p);
-        if LARGEST - total < n {
-            return LARGEST;
-        }
-        total += n;
-        at += taken_by(p);
+    for text in texts_of(s) {
+        total = total.saturating_add(text.len());
     }
     total
 }
 
-// Fills `out` with what comes out of the piece at a place.
-fn put(s: &[u8], at: usize, p: Piece, out: &mut [u8])
-    requires at_in_bounds { at < length s.now }
-    requires stands { Stands s.now at p }
-    requires out_len { length out.old ≡ given (piece_of p) }
-    ensures { out.new ≡ text_at s.now at }
-{
-    match p {
-        Piece::Sequence(n) => {
-            out.copy_from_slice(&s[at..at + n + 1]);
-        }
-        Piece::Subpart(_) => {
-            out.copy_from_slice(b"\xEF\xBF\xBD");
-        }
-    }
-}
-
 // Fills `out` with the text.
+#[tactic(auto, using(crate::proofs::Text::lossy_empty, crate::proofs::Text::joined_length, crate::proofs::Text::write_turn, crate::proofs::Text::write_done))]
 fn write(s: &[u8], out: &mut [u8])
     requires { length out.old ≡ length (lossy s.now) }
     ensures { out.new ≡ lossy s.now }
 {
-    let mut at = 0;
     let mut n = 0;
-    while at < s.len() {
-        let p = piece_at(s, at);
-        let end = n + given_by(p);
-        put(s, at, p, &mut out[n..end]);
-        at += taken_by(p);
+    for text in texts_of(s) {
+        let end = n + text.len();
+        out[n..end].copy_from_slice(text);
         n = end;
     }
 }
 
 // Decodes into `out`. Where the text has no room there, nothing is written.
-pub fn decode_lossy(s: &[u8], out: &mut [u8]) -> Decoded
-    ensures { Decoding s.now out.old out.new (decoded_of result) }
+#[tactic(auto, using(lsm_format::proofs::Lent::lend_short, lsm_format::proofs::Lent::lend_room, lsm_format::proofs::Lent::filled_short, lsm_format::proofs::Lent::filled_room))]
+pub fn decode_lossy(s: &[u8], out: &mut [u8]) -> Result<usize, Refusal>
+    ensures { Decoding s.now out.old out.new (answer_of result) }
 {
     let needed = lossy_length(s);
     if out.len() < needed {
-        return Decoded::Refused(Refusal::TooShort { needed });
+        return Err(Refusal::TooShort { needed });
     }
     write(s, &mut out[..needed]);
-    Decoded::Length(needed)
+    Ok(needed)
 }

@@ -1,13 +1,13 @@
-use Prim.Native.Nat.{◌-◌, ◌≤◌}
+use Prim.Native.Nat.{◌+◌}
 use mathlib.Core.List.{◌++◌}
 use mathlib.Core.Path.{◌≡◌}
-use lib.ListN.{length, take, drop}
+use lib.ListN.{length, take}
 use Rattle.lsm_format.specs.Utf8.{lossy}
 use Rattle.utf8.proofs.write.Given as goal
 
-abbrev pub invariant-loop-at : goal.invariant-loop-at
-invariant-loop-at l =
-    (l.at ≤ length l.s) × (l.n ≤ length l.out) × (length l.out ≡ length (lossy l.s)) × (take l.n l.out ++ lossy (drop l.at l.s) ≡ lossy l.s)
-
-abbrev pub decreases-loop-at : goal.decreases-loop-at
-decreases-loop-at l = length l.s - l.at
+-- what was written, then the text of the bytes that are left, is the text
+abbrev pub invariant-loop-text : goal.invariant-loop-text
+invariant-loop-text l = record {
+  count : l.n + length (lossy l.text-iterator.rest.now) ≡ length (lossy l.s);
+  so_far : take l.n l.out ++ lossy l.text-iterator.rest.now ≡ lossy l.s;
+}
