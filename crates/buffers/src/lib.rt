@@ -18,6 +18,7 @@ pub fn zeros<const N: usize>() -> [u8; N]
 
 // Reads until `buf` is full or the input ends, and answers how many bytes it put at the front of `buf`: all that the input had, where
 // they are fewer than there is room for. A read that a signal interrupts counts as one that failed.
+#[tactic(auto, using(crate::proofs::Parts::read_more))]
 pub fn read_full<R: Read>(input: &mut R, buf: &mut [u8]) -> io::Result<usize>
     ensures inside { ReadsAtMost result buf.new }
     ensures len { length buf.new ≡ length buf.old }
@@ -25,6 +26,8 @@ pub fn read_full<R: Read>(input: &mut R, buf: &mut [u8]) -> io::Result<usize>
     ensures whole { IfOk result (λ n. n < length buf.new → IsAtEnd (R.remaining input.new)) }
 {
     let mut n = 0;
+    // A read says how far `n` goes, so this is no count. Of std's readers `read_exact` doesn't say how many bytes a short input had, and
+    // `read_to_end` wants a heap.
     while n < buf.len() {
         let more = input.read(&mut buf[n..])?;
         if more == 0 {
