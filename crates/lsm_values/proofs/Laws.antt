@@ -1,20 +1,55 @@
--- Laws of a strip array whose place is known, a case each. Assumes nothing.
-use Prim.Native.Nat.{ℕ, zero, suc, ◌+◌, ◌*◌, ◌/◌, ◌≤◌, ◌<◌}
-use native.Mathlib.Nat.{add-zero, mul-zero, mul-suc, mul_comm, suc-mul, le-div_iff_mul-le, div-lt_iff_lt-mul}
+-- Laws of scalars and of strip arrays, in the order in which the code asks; and of a strip array's values. Assumes nothing.
+use Prim.Native.Nat.{ℕ, zero, suc, ◌+◌, ◌*◌, ◌≤◌, ◌<◌}
+use native.Mathlib.Nat.{add-zero, mul-zero, mul-suc}
 use native.Mathlib.Omega.{arith}
-use mathlib.Core.Bool.{Bool, true, false}
-use Rattle.std.specs.Prelude.{None, Some}
+use mathlib.Core.Bool.{Bool, true, false, not, cond}
+use Rattle.std.specs.Prelude.{Option, None, Some}
+use Rattle.std.proofs.lemmas.Bool.Decides.{nat_tests}
 use mathlib.Core.Path.{◌≡◌, refl, sym, ◌∙◌}
 use mathlib.Core.List.{List, []}
-use lib.Dec.{leb}
+use lib.Dec.{leb, eqb}
 use lib.ListN.{length, get_or, get_or-eq_default}
-use borrow.Author.Tests.{ne_eqb, le-leb, lt-leb}
+use borrow.Author.Tests.{ne_eqb, eqb-true, eqb-false, leb-true, leb-false}
 use Rattle.lsm_format.specs.Answer.{Result, accepted, refused, bind, need, parse, decode}
 use Rattle.lsm_format.specs.Numbers.{Order, number_at}
-use Rattle.lsm_format.specs.Directory.{type_size, integer_size, value_at, values_at, Values, value_place, entry_values, array_values, array}
-use Rattle.lsm_format.proofs.Directory.{values_next, values_past}
-use Rattle.lsm_format.proofs.Numbers.{number_there, number_past}
+use Rattle.lsm_format.specs.Directory.{type_size, integer_size, value_at, values_at, value_place, scalar, entry_values, array_values, array}
+use Rattle.lsm_format.proofs.Directory.{values_next, values_past, scalar_no_number, scalar_nowhere, scalar_no_count, scalar_is, integer_size_lem}
+use Rattle.lsm_format.proofs.Numbers.{number_there}
 use Rattle.lsm_values.specs.Values.{or_nought, values, array_at}
+
+-- ---- scalars
+
+-- no type is read as a number of no bytes
+no_nought : (t : ℕ) → integer_size t ≡ Some 0 → ⊥
+unfolding integer_size type_size
+no_nought t e = grind (arith, nat_tests)
+
+-- The first value, by how its type is read as a number: then that says the size, and a count of 0 needs no place. Any other type is refused
+-- once the place is known.
+abbrev pub scalar_by : Option ℕ → Order → List ℕ → ℕ → ℕ → ℕ → Result ℕ
+scalar_by (Some size) o f type count place = bind (need decode (not (eqb count 0))) (λ _. bind (value_place o f size count place) (λ p. number_at size o f p))
+scalar_by None o f type count place = bind (value_place o f (type_size type) count place) (λ p. refused decode)
+
+module _ (o : Order) (f : List ℕ) (type count place : ℕ) where
+  pub scalar_asked : scalar o f type count place ≡ scalar_by (integer_size type) o f type count place
+  unfolding bind
+  scalar_asked = by (integer_size type) refl
+    where
+      number : (size : ℕ) (b : Bool) (r : Result ℕ) → integer_size type ≡ Some size → eqb count 0 ≡ b → value_place o f size count place ≡ r →
+          scalar o f type count place ≡ bind (need decode (not b)) (λ _. bind r (λ p. number_at size o f p))
+      number size true r i t e = sym (scalar_no_count o f type count place size i (λ z. no_nought type (rw (← z) i)) (eqb-true count 0 t))
+      number size false (accepted p) i t e = sym (scalar_is o f type count place size i (λ z. no_nought type (rw (← z) i)) (eqb-false count 0 t) p e)
+      number size false (refused row) i t e = sym (scalar_nowhere o f type count place row (rw (integer_size_lem type size i) e))
+
+      other : (r : Result ℕ) → integer_size type ≡ None → value_place o f (type_size type) count place ≡ r → scalar o f type count place ≡ bind r (λ p. refused decode)
+      other (accepted p) i e = sym (scalar_no_number o f type count place p e i)
+      other (refused row) i e = sym (scalar_nowhere o f type count place row e)
+
+      by : (s : Option ℕ) → integer_size type ≡ s → scalar o f type count place ≡ scalar_by s o f type count place
+      by (Some size) i = number size (eqb count 0) (value_place o f size count place) i refl refl
+      by None i = other (value_place o f (type_size type) count place) i refl
+
+-- ---- strip arrays
 
 values_none : (type : ℕ) (o : Order) (f : List ℕ) (p : ℕ) → values_at 0 type o f p ≡ accepted []
 unfolding values_at
@@ -29,45 +64,40 @@ values_there (suc n) type size o f p i h =
     let there = number_there size o f p (omega (arith, mul-suc size n)) in
     values_next n type size o f p i _ there ∙ rw (there, values_there n type size o f (p + size) i (omega (arith, mul-suc size n)))
 
-module _ (o : Order) (f : List ℕ) (type count : ℕ) where
-  -- an array from the place of its values on
-  pub array_after : (place size p : ℕ) → size ≡ type_size type → (size ≡ 0 → ⊥) → value_place o f size count place ≡ accepted p →
-      array_at o f type count p ≡ array o f type count place
+-- A strip array: its type has a size, then the place of its values is known.
+module _ (o : Order) (f : List ℕ) (type count place : ℕ) where
+  pub array_asked : array o f type count place
+      ≡ bind (need decode (not (eqb (type_size type) 0))) (λ _. bind (value_place o f (type_size type) count place) (λ p. array_at o f type count p))
   unfolding array array_values entry_values array_at bind
-  array_after place size p is z e = rw (← is, ne_eqb size 0 z, e) (by (leb count 100000))
+  array_asked = by (eqb (type_size type) 0) (value_place o f (type_size type) count place) (leb count 100000) refl refl refl
     where
-      by : (b : Bool) →
-          bind (need decode b) (λ _. values_at count type o f p)
-          ≡ bind {A = Values} (bind (need decode b) (λ _. accepted (record { place = p; type = type; count = count }))) (λ v. values_at v.count v.type o f v.place)
-      by true = refl
-      by false = refl
+      by : (b : Bool) (r : Result ℕ) (l : Bool) → eqb (type_size type) 0 ≡ b → value_place o f (type_size type) count place ≡ r → leb count 100000 ≡ l →
+          array o f type count place ≡ bind (need decode (not b)) (λ _. bind r (λ p. bind (need decode l) (λ _. values_at count type o f p)))
+      by true r l t e m = rw t
+      by false (refused row) l t e m = rw (t, e)
+      by false (accepted p) false t e m = rw (t, e, m)
+      by false (accepted p) true t e m = rw (t, e, m)
 
-  pub array_many : (p : ℕ) → 100000 < count → refused decode ≡ array_at o f type count p
-  unfolding array_at bind
-  array_many p h = rw (lt-leb count 100000 h)
+-- The values at a known place, by how their type is read as a number: where the last of them is in the file, all are.
+abbrev pub array_by : Option ℕ → Order → List ℕ → ℕ → ℕ → Result (List ℕ)
+array_by (Some size) o f count p = bind (need parse (leb (p + size * count) (length f))) (λ _. accepted (values count size o f p))
+array_by None o f count p = refused decode
 
-module _ (o : Order) (f : List ℕ) (type : ℕ) where
-  pub array_empty : (count p : ℕ) → count ≡ 0 → accepted [] ≡ array_at o f type count p
-  unfolding array_at bind values_at
-  array_empty count p z = rw z
+module _ (o : Order) (f : List ℕ) (type p : ℕ) where
+  asked : (count : ℕ) (s : Option ℕ) → integer_size type ≡ s → values_at count type o f p ≡ cond (eqb count 0) (accepted []) (array_by s o f count p)
+  unfolding values_at value_at bind
+  asked zero s i = refl
+  asked (suc n) None i = rw (i, ne_eqb (suc n) 0 (λ e. omega arith))
+  asked (suc n) (Some size) i = rw (ne_eqb (suc n) 0 (λ e. omega arith)) (by (leb (p + size * suc n) (length f)) refl)
+    where
+      by : (l : Bool) → leb (p + size * suc n) (length f) ≡ l → values_at (suc n) type o f p ≡ bind (need parse l) (λ _. accepted (values (suc n) size o f p))
+      by true t = values_there (suc n) type size o f p i (leb-true _ _ t)
+      by false t = values_past n type size o f p i (leb-false _ _ t)
 
-  pub array_no_number : (count p : ℕ) → count ≤ 100000 → (count ≡ 0 → ⊥) → integer_size type ≡ None → refused decode ≡ array_at o f type count p
-  unfolding array_at values_at value_at bind
-  array_no_number zero p h z i = absurd (z refl)
-  array_no_number (suc n) p h z i = rw (le-leb (suc n) 100000 h, i)
-
-  values_of : (count p : ℕ) → count ≤ 100000 → values_at count type o f p ≡ array_at o f type count p
-  unfolding array_at bind
-  values_of count p h = rw (le-leb count 100000 h)
-
-  pub array_past : (count p size : ℕ) → count ≤ 100000 → (count ≡ 0 → ⊥) → integer_size type ≡ Some size → length f < p + size * count →
-      refused parse ≡ array_at o f type count p
-  array_past zero p size h z i l = absurd (z refl)
-  array_past (suc n) p size h z i l = rw (← values_of (suc n) p h) (sym (values_past n type size o f p i l))
-
-  pub array_there : (count p size : ℕ) → count ≤ 100000 → (count ≡ 0 → ⊥) → integer_size type ≡ Some size → p + size * count ≤ length f →
-      accepted (values count size o f p) ≡ array_at o f type count p
-  array_there count p size h z i l = rw (← values_of count p h) (sym (values_there count type size o f p i l))
+  pub array_counted : (count : ℕ) → array_at o f type count p
+      ≡ bind (need decode (leb count 100000)) (λ _. cond (eqb count 0) (accepted []) (array_by (integer_size type) o f count p))
+  unfolding array_at
+  array_counted count = rw (← asked count (integer_size type) refl) refl
 
 -- an array has as many values as it counts
 pub values_length : (n size : ℕ) (o : Order) (f : List ℕ) (p : ℕ) → length (values n size o f p) ≡ n
@@ -87,20 +117,6 @@ value_at_lem (suc n) size o f p (suc i) h =
     let q : p + size + size * i ≡ p + size * suc i = omega (arith, mul-suc size i) in
     rw (← q) (value_at_lem n size o f (p + size) i (omega arith))
 
-module _ (n size : ℕ) (o : Order) (f : List ℕ) (p i : ℕ) where
-  pub value_none : n ≤ i → 0 ≡ get_or (values n size o f p) i 0
-  value_none h = sym (get_or-eq_default (values n size o f p) 0 (rw (values_length n size o f p) h))
-
-  pub value_is : i < n → (r : Result ℕ) → number_at size o f (p + size * i) ≡ r → or_nought r ≡ get_or (values n size o f p) i 0
-  value_is h r e = rw (value_at_lem n size o f p i h, e)
-
-  pub value_past : i < n → length f < p + size * i + size → 0 ≡ get_or (values n size o f p) i 0
-  unfolding or_nought
-  value_past h l = value_is h (refused parse) (number_past size o f (p + size * i) l)
-
--- the test by a quotient: whether the bytes of number i are among so many
-pub among_them : (q s i : ℕ) → 0 < s → i < q / s → s * i + s ≤ q
-among_them q s i z h = omega (arith, (le-div_iff_mul-le {k = s} {x = suc i} {y = q} z).0 h, suc-mul i s, mul_comm s i)
-
-pub past_them : (q s i : ℕ) → 0 < s → q / s ≤ i → q < s * i + s
-past_them q s i z h = omega (arith, (div-lt_iff_lt-mul {k = s} {x = q} {y = suc i} z).0 (omega arith), suc-mul i s, mul_comm s i)
+-- past the count there is none
+pub value_none : (n size : ℕ) (o : Order) (f : List ℕ) (p i : ℕ) → n ≤ i → get_or (values n size o f p) i 0 ≡ 0
+value_none n size o f p i h = get_or-eq_default (values n size o f p) 0 (rw (values_length n size o f p) h)

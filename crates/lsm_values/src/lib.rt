@@ -1,15 +1,16 @@
 // The values of a directory's entries: their types, where they stand, single numbers and strip arrays.
 #![tactic(auto)]
 
-ghost use Rattle.std.specs.Prelude.{◌≡◌, ℕ, ◌≤◌, ◌<◌, get_or, None, Some};
-ghost use Rattle.lsm_format.specs.Code.{order_of};
-ghost use Rattle.lsm_format.specs.Numbers.{number_at};
+ghost use Rattle.std.specs.Prelude.{◌≡◌, ℕ, ◌+◌, ◌*◌, ◌≤◌, ◌<◌, get_or, None, Some, option_map};
+ghost use Rattle.lsm_format.specs.Code.{order_of, answer_of, answer_by};
+ghost use Rattle.lsm_format.specs.Numbers.{Order, number_at};
+ghost use Rattle.lsm_format.specs.Words.{word};
 ghost use Rattle.lsm_format.specs.Directory.{type_size, integer_size, value_place, scalar, array};
-ghost use Rattle.lsm_bytes.specs.Code.{u32_of};
 ghost use Rattle.lsm_values.specs.Values.{array_at};
-ghost use Rattle.lsm_values.specs.Code.{bytes_of, values_of, integer_of, place_of, scalar_of, array_of};
+ghost use Rattle.lsm_values.specs.Code.{bytes_of, values_of};
 
-use lsm_bytes::{U8, U16, U32, read_u8, read_u16, read_u32};
+use lsm_bytes::{read_u8, read_u16, read_u32};
+use lsm_format::checked::{checked_add, checked_mul};
 use lsm_format::error::Refusal;
 use lsm_format::types::Endian;
 
@@ -21,14 +22,29 @@ pub enum Width {
     Four,
 }
 
-// How a TIFF type is read as a number, if it is.
+impl Width {
+    // How many they are.
+    fn bytes(self) -> usize
+        ensures { (result ≡ bytes_of self) × (result ≤ 4) × (0 < result) }
+    {
+        match self {
+            Width::One => 1,
+            Width::Two => 2,
+            Width::Four => 4,
+        }
+    }
+}
+
+// What an entry says of its values: their type, how many they are, and where its four bytes for values stand.
 #[derive(Clone, Copy)]
-pub enum Integer {
-    Of(Width),
-    Nothing,
+pub struct Entry {
+    pub ty: u16,
+    pub count: u32,
+    pub off: usize,
 }
 
 // The bytes of a TIFF type; 0 for a code that is none.
+#[tactic(auto, unfolding(lsm_format::specs::Directory::type_size))]
 pub fn tiff_type_size(ty: u16) -> usize
     ensures { result ≡ type_size ty }
 {
@@ -41,95 +57,74 @@ pub fn tiff_type_size(ty: u16) -> usize
     }
 }
 
-// A type's bytes as a number.
-pub fn integer_width(ty: u16) -> Integer
-    ensures { integer_of result ≡ integer_size ty }
+// How a TIFF type is read as a number, if it is.
+#[tactic(auto, unfolding(lsm_format::specs::Directory::type_size, lsm_format::specs::Directory::integer_size))]
+pub fn integer_width(ty: u16) -> Option<Width>
+    ensures { option_map bytes_of result ≡ integer_size ty }
 {
     match ty {
-        1 | 6 | 7 => Integer::Of(Width::One),
-        3 | 8 => Integer::Of(Width::Two),
-        4 | 9 | 11 => Integer::Of(Width::Four),
-        _ => Integer::Nothing,
+        1 | 6 | 7 => Some(Width::One),
+        3 | 8 => Some(Width::Two),
+        4 | 9 | 11 => Some(Width::Four),
+        _ => None,
     }
 }
 
 // The number of one, two or four bytes at a place.
-pub fn read_number(buf: &[u8], off: usize, width: Width, e: Endian) -> U32
-    ensures { u32_of result ≡ number_at (bytes_of width) (order_of e) buf.now off }
+#[tactic(auto, using(lsm_format::proofs::Numbers::number_byte))]
+pub fn read_number(buf: &[u8], off: usize, width: Width, e: Endian) -> Result<u32, Refusal>
+    ensures { answer_of result ≡ number_at (bytes_of width) (order_of e) buf.now off }
 {
     match width {
-        Width::One => match read_u8(buf, off) {
-            U8::Value(n) => U32::Value(n as u32),
-            U8::Parse => U32::Parse,
-        },
-        Width::Two => match read_u16(buf, off, e) {
-            U16::Value(n) => U32::Value(n as u32),
-            U16::Parse => U32::Parse,
-        },
+        Width::One => Ok(u32::from(read_u8(buf, off)?)),
+        Width::Two => Ok(u32::from(read_u16(buf, off, e)?)),
         Width::Four => read_u32(buf, off, e),
     }
 }
 
-#[derive(Clone, Copy)]
-pub enum Place {
-    At(usize),
-    Parse,
-}
-
 // Where an entry's values stand: in the entry where they fit into four bytes, otherwise at the offset that it holds.
 #[tactic(auto, unfolding(lsm_format::specs::Directory::value_place, lsm_format::specs::Answer::bind))]
-fn value_place(buf: &[u8], size: usize, count: u32, off: usize, e: Endian) -> Place
+fn value_place(buf: &[u8], size: usize, entry: Entry, e: Endian) -> Result<usize, Refusal>
     requires { size ≤ 8 }
-    ensures { place_of result ≡ value_place (order_of e) buf.now size count off }
+    ensures { answer_of result ≡ value_place (order_of e) buf.now size entry.count entry.off }
 {
-    if size * (count as usize) <= 4 {
-        return Place::At(off);
+    if size * (entry.count as usize) <= 4 {
+        return Ok(entry.off);
     }
-    match read_u32(buf, off, e) {
-        U32::Value(p) => Place::At(p as usize),
-        U32::Parse => Place::Parse,
-    }
-}
-
-#[derive(Clone, Copy)]
-pub enum Scalar {
-    Value(u32),
-    Refused(Refusal),
+    let place = read_u32(buf, entry.off, e)?;
+    Ok(place as usize)
 }
 
 // The first value of an entry whose type is read as a number of this width.
-fn first_number(buf: &[u8], width: Width, count: u32, off: usize, e: Endian) -> Scalar
-    ensures { (type : ℕ) → integer_size type ≡ Some (bytes_of width) → scalar_of result ≡ scalar (order_of e) buf.now type count off }
+#[tactic(auto, unfolding(lsm_format::specs::Answer::bind), using(crate::proofs::Laws::scalar_asked))]
+fn first_number(buf: &[u8], width: Width, entry: Entry, e: Endian) -> Result<u32, Refusal>
+    requires { integer_size entry.ty ≡ Some (bytes_of width) }
+    ensures { answer_of result ≡ scalar (order_of e) buf.now entry.ty entry.count entry.off }
 {
-    if count == 0 {
-        return Scalar::Refused(Refusal::Decode);
+    if entry.count == 0 {
+        return Err(Refusal::Decode);
     }
-    match value_place(buf, width_bytes(width), count, off, e) {
-        Place::At(place) => match read_number(buf, place, width, e) {
-            U32::Value(n) => Scalar::Value(n),
-            U32::Parse => Scalar::Refused(Refusal::Parse),
-        },
-        Place::Parse => Scalar::Refused(Refusal::Parse),
-    }
+    let place = value_place(buf, width.bytes(), entry, e)?;
+    read_number(buf, place, width, e)
 }
 
 // An entry whose type is no number is refused, whatever its size and count; but the place of its values is read before that.
-fn no_number(buf: &[u8], ty: u16, count: u32, off: usize, e: Endian) -> Scalar
-    ensures { integer_size ty ≡ None → scalar_of result ≡ scalar (order_of e) buf.now ty count off }
+#[tactic(auto, unfolding(lsm_format::specs::Answer::bind), using(crate::proofs::Laws::scalar_asked, lsm_format::proofs::Directory::type_size_small))]
+fn no_number(buf: &[u8], entry: Entry, e: Endian) -> Result<u32, Refusal>
+    requires { integer_size entry.ty ≡ None }
+    ensures { answer_of result ≡ scalar (order_of e) buf.now entry.ty entry.count entry.off }
 {
-    match value_place(buf, tiff_type_size(ty), count, off, e) {
-        Place::At(_) => Scalar::Refused(Refusal::Decode),
-        Place::Parse => Scalar::Refused(Refusal::Parse),
-    }
+    value_place(buf, tiff_type_size(entry.ty), entry, e)?;
+    Err(Refusal::Decode)
 }
 
 // The first value of an entry. How its type is read as a number says its size too, and is asked once.
-pub fn read_scalar(buf: &[u8], ty: u16, count: u32, off: usize, e: Endian) -> Scalar
-    ensures { scalar_of result ≡ scalar (order_of e) buf.now ty count off }
+pub fn read_scalar(buf: &[u8], entry: Entry, e: Endian) -> Result<u32, Refusal>
+    ensures { answer_of result ≡ scalar (order_of e) buf.now entry.ty entry.count entry.off }
 {
-    match integer_width(ty) {
-        Integer::Of(width) => first_number(buf, width, count, off, e),
-        Integer::Nothing => no_number(buf, ty, count, off, e),
+    match integer_width(entry.ty) {
+        Some(width) => first_number(buf, width, entry, e),
+        None => no_number(buf, entry, e),
     }
 }
 
@@ -141,88 +136,73 @@ pub struct StripArray {
     pub width: Width,
 }
 
-#[derive(Clone, Copy)]
-pub enum ArrayAnswer {
-    Array(StripArray),
-    Decode,
-    Parse,
+impl StripArray {
+    // The array that has no values.
+    pub const EMPTY: StripArray = StripArray {
+        place: 0,
+        count: 0,
+        width: Width::One,
+    };
 }
 
 // The most strips of a page.
 const MAX_STRIP_COUNT: u32 = 100_000;
 
-fn width_bytes(width: Width) -> usize
-    ensures { (result ≡ bytes_of width) × (result ≤ 4) × (0 < result) }
-{
-    match width {
-        Width::One => 1,
-        Width::Two => 2,
-        Width::Four => 4,
-    }
-}
-
 // The strip array at a place. Its values are not read one by one: all of them are in the file where the last byte is.
-#[tactic(auto, unfolding(crate::specs::Values::array_at, lsm_format::specs::Answer::bind))]
-fn array_at(buf: &[u8], ty: u16, count: u32, place: usize, e: Endian) -> ArrayAnswer
-    ensures { array_of (order_of e) buf.now result ≡ array_at (order_of e) buf.now ty count place }
+#[tactic(auto, unfolding(crate::specs::Values::values, lsm_format::specs::Answer::bind), using(crate::proofs::Laws::array_counted))]
+fn array_at(buf: &[u8], entry: Entry, place: usize) -> Result<StripArray, Refusal>
+    ensures { (o : Order) → answer_by (values_of o buf.now) result ≡ array_at o buf.now entry.ty entry.count place }
 {
-    if MAX_STRIP_COUNT < count {
-        return ArrayAnswer::Decode;
+    if MAX_STRIP_COUNT < entry.count {
+        return Err(Refusal::Decode);
     }
-    if count == 0 {
-        return ArrayAnswer::Array(StripArray {
-            place: 0,
-            count: 0,
-            width: Width::One,
-        });
+    if entry.count == 0 {
+        return Ok(StripArray::EMPTY);
     }
-    let Integer::Of(width) = integer_width(ty) else {
-        return ArrayAnswer::Decode;
-    };
-    if buf.len() < place {
-        return ArrayAnswer::Parse;
+    let width = integer_width(entry.ty).ok_or(Refusal::Decode)?;
+    let count = entry.count as usize;
+    let rest = buf.get(place..).ok_or(Refusal::Parse)?;
+    if rest.len() < width.bytes() * count {
+        return Err(Refusal::Parse);
     }
-    if buf.len() - place < width_bytes(width) * (count as usize) {
-        return ArrayAnswer::Parse;
-    }
-    ArrayAnswer::Array(StripArray {
+    Ok(StripArray {
         place,
-        count: count as usize,
+        count,
         width,
     })
 }
 
 // The strip array of an entry.
-pub fn read_array(buf: &[u8], ty: u16, count: u32, off: usize, e: Endian) -> ArrayAnswer
-    ensures { array_of (order_of e) buf.now result ≡ array (order_of e) buf.now ty count off }
+#[tactic(auto, unfolding(lsm_format::specs::Answer::bind), using(crate::proofs::Laws::array_asked, lsm_format::proofs::Directory::type_size_small))]
+pub fn read_array(buf: &[u8], entry: Entry, e: Endian) -> Result<StripArray, Refusal>
+    ensures { answer_by (values_of (order_of e) buf.now) result ≡ array (order_of e) buf.now entry.ty entry.count entry.off }
 {
-    let size = tiff_type_size(ty);
+    let size = tiff_type_size(entry.ty);
     if size == 0 {
-        return ArrayAnswer::Decode;
+        return Err(Refusal::Decode);
     }
-    match value_place(buf, size, count, off, e) {
-        Place::At(place) => array_at(buf, ty, count, place, e),
-        Place::Parse => ArrayAnswer::Parse,
-    }
+    let place = value_place(buf, size, entry, e)?;
+    array_at(buf, entry, place)
+}
+
+// Where value i of a strip array stands, if the machine has such a place.
+#[tactic(auto, unfolding(lsm_format::specs::Words::word), using(std::proofs::lemmas::Bool::Decides::nat_tests))]
+fn value_offset(a: StripArray, i: usize) -> Option<usize>
+    ensures { result ≡ word (a.place + bytes_of a.width * i) }
+{
+    checked_add(a.place, checked_mul(a.width.bytes(), i)?)
 }
 
 // Value i of a strip array; 0 where there is none.
+#[tactic(auto, unfolding(crate::specs::Values::or_nought, lsm_format::specs::Words::word), using(crate::proofs::Laws::value_none, crate::proofs::Laws::value_at_lem, lsm_format::proofs::Numbers::number_past, std::proofs::lemmas::Bool::Decides::nat_tests))]
 pub fn strip_value(buf: &[u8], a: StripArray, i: usize, e: Endian) -> usize
     ensures { result ≡ get_or (values_of (order_of e) buf.now a) i 0 }
 {
     if a.count <= i {
         return 0;
     }
-    let width = a.width;
-    let size = width_bytes(width);
-    if buf.len() < a.place {
+    let Some(off) = value_offset(a, i) else {
         return 0;
-    }
-    if (buf.len() - a.place) / size <= i {
-        return 0;
-    }
-    match read_number(buf, a.place + size * i, width, e) {
-        U32::Value(n) => n as usize,
-        U32::Parse => 0,
-    }
+    };
+    read_number(buf, off, a.width, e).unwrap_or(0) as usize
 }
