@@ -1,3 +1,3 @@
-pub mod Signed
-pub mod Naming
+pub mod Read
+pub mod Zeros
 pub mod Looked

@@ -1,37 +1,18 @@
 -- What the channel's types mean in the definitions' terms.
-use Rattle.std.specs.Prelude.{ℕ, ◌≡◌, List, [], ◌∷◌, length, Option, None, Some}
+use Rattle.std.specs.Prelude.{ℕ, ◌≡◌, List, length, Option, None, Some}
 use Rattle.lsm_format.specs.Answer.{Result, accepted, refused}
-use Rattle.lsm_format.specs.Code.{row_of}
 use Rattle.lsm_format.specs.Channels as Rule
 use Rattle.lsm_format.specs.Channels.{lookup, lookup_memory}
 use Rattle.lsm_format.specs.Numbers.{Order}
-use Rattle.lsm_channel_colors.specs.declared.Color.{Color}
-use Rattle.lsm_channel_colors.specs.declared.Color.TheVariants.{Absent as NoColor, Rgb}
-use Rattle.lsm_channel_colors.specs.declared.Name.{Name}
-use Rattle.lsm_channel_colors.specs.declared.Name.TheVariants.{Absent as NoName, Length}
 use Rattle.lsm_channel_colors.specs.declared.ChannelMeta.{ChannelMeta}
-use Rattle.lsm_channel_colors.specs.declared.ChannelAnswer.{ChannelAnswer}
-use Rattle.lsm_channel_colors.specs.declared.ChannelAnswer.TheVariants.{Found, Refused}
 
 -- A channel as a caller sees it: its colour, and its name's length; the name's bytes are in the lent memory.
 pub record Seen : Type 0 where
   pub color : Option (List ℕ)
   pub name : Option ℕ
 
-abbrev pub color_of : Color → Option (List ℕ)
-color_of NoColor = None
-color_of (Rgb r g b) = Some (r ∷ g ∷ b ∷ [])
-
-abbrev pub name_of : Name → Option ℕ
-name_of NoName = None
-name_of (Length n) = Some n
-
 abbrev pub meta_of : ChannelMeta → Seen
-meta_of m = record { color = color_of m.color; name = name_of m.name }
-
-abbrev pub answer_of : ChannelAnswer → Result Seen
-answer_of (Found m) = accepted (meta_of m)
-answer_of (Refused r) = refused (row_of r)
+meta_of m = record { color = m.color; name = m.name }
 
 -- The same of the definition's channel.
 abbrev pub length_of : Option (List ℕ) → Option ℕ

@@ -1,12 +1,8 @@
 -- What the functions answer, in the definitions' terms.
-use Rattle.std.specs.Prelude.{ℕ, zero, suc, ℤ, pos, negsuc, Option, None, Some}
-use Rattle.lsm_format.specs.Answer.{Result, accepted, refused, parse}
-use Rattle.lsm_channel_colors.specs.declared.tables.Count.{Count}
-use Rattle.lsm_channel_colors.specs.declared.tables.Count.TheVariants.{Value, Nothing}
+use Rattle.std.specs.Prelude.{ℕ, zero, suc, ℤ, pos, negsuc, List, take, drop, Option, None, Some}
+use Rattle.lsm_format.specs.Answer.{Result, accepted, refused}
 use Rattle.lsm_channel_colors.specs.declared.tables.Pointers.{Pointers}
-use Rattle.lsm_channel_colors.specs.declared.tables.Pointers.TheVariants.{Absent as NoPointers, At as PointersAt}
 use Rattle.lsm_channel_colors.specs.declared.tables.Record.{Record}
-use Rattle.lsm_channel_colors.specs.declared.tables.Record.TheVariants.{Absent, At}
 
 -- A length as the file states it, and a pointer: "a negative length" ends the names, "a pointer ≤ 0 means none of that sort".
 abbrev pub natural : ℤ → Option ℕ
@@ -18,15 +14,18 @@ pointed (pos zero) = None
 pointed (pos (suc n)) = Some (suc n)
 pointed (negsuc n) = None
 
-abbrev pub count_of : Count → Option ℕ
-count_of (Value n) = Some n
-count_of Nothing = None
+-- What a rule accepts, if it does.
+abbrev pub read : {A : Type 0} → Result A → Option A
+read (accepted a) = Some a
+read (refused row) = None
 
-abbrev pub pointers_of : Pointers → Result (ℤ × ℤ)
-pointers_of (PointersAt colors names) = accepted (colors, names)
-pointers_of NoPointers = refused parse
+abbrev pub pointers_of : Pointers → ℤ × ℤ
+pointers_of p = (p.colors, p.names)
 
 -- Where a name's bytes start and how many they are.
-abbrev pub span_of : Record → Option (ℕ × ℕ)
-span_of (At start len) = Some (start, len)
-span_of Absent = None
+abbrev pub span_of : Record → ℕ × ℕ
+span_of r = (r.start, r.len)
+
+-- The bytes that stand there.
+abbrev pub bytes_in : List ℕ → ℕ × ℕ → List ℕ
+bytes_in f r = take r.1 (drop r.0 f)
