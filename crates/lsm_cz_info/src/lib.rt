@@ -1,19 +1,19 @@
 // The CZ-LSM-Info block: dimensions, voxel sizes, the channel block's place, positions and tiles.
 #![tactic(auto)]
 
-mod header;
+mod block;
 
-ghost use Rattle.std.specs.Prelude.{◌≡◌, ◌+◌, ◌≤◌, leb, pos, length, None};
+ghost use Rattle.std.specs.Prelude.{◌≡◌, leb, pos, None};
 ghost use Rattle.lsm_format.specs.Calibration.{uncalibrated};
-ghost use Rattle.lsm_format.specs.Code.{order_of, block_of};
+ghost use Rattle.lsm_format.specs.Code.{order_of, answer_of, answer_by};
 ghost use Rattle.lsm_format.specs.CzInfo.{extents, stated, voxels, block_place, channel_block, shots, from, cz_info};
-ghost use Rattle.lsm_cz_info.specs.Code.{stated_of, extents_of, voxels_of, channel_of, shots_of, cz_of};
+ghost use Rattle.calibration.specs.Calibrated.{calibration_of};
+ghost use Rattle.lsm_cz_info.specs.Code.{stated_of, shots_of, info_of};
 
-use crate::header::{LengthAnswer, read_header};
+use crate::block::Block;
 use calibration::{Calibration, calibrate};
-use lsm_bytes::{F64Bits, I32, read_f64_bits, read_i32};
 use lsm_format::error::Refusal;
-use lsm_format::types::{ChannelBlock, Endian};
+use lsm_format::types::{CzTag, Endian};
 
 // The dimensions: five i32s.
 const DIM_X_AT: usize = 8;
@@ -47,15 +47,6 @@ const DIM_M_AT: usize = 268;
 
 const COUNTS_END: usize = 272;
 
-// The TIFF entry that announces the block.
-#[derive(Clone, Copy)]
-pub struct CzTag {
-    // Where the block stands in the file.
-    pub offset: usize,
-    // The bytes that the entry declares.
-    pub declared_bytes: usize,
-}
-
 #[derive(Clone, Copy)]
 pub struct CzInfo {
     pub dim_x: u32,
@@ -66,14 +57,8 @@ pub struct CzInfo {
     // Stage positions and tiles, as the block states them: they may be negative.
     pub dim_p: i32,
     pub dim_m: i32,
-    pub channel_colors_offset: ChannelBlock,
-    pub calibration: Calibration,
-}
-
-#[derive(Clone, Copy)]
-pub enum CzAnswer {
-    Info(CzInfo),
-    Refused(Refusal),
+    pub channel_colors_offset: Option<usize>,
+    pub calibration: Option<Calibration>,
 }
 
 // The dimensions as the block states them: any of them may be negative.
@@ -86,183 +71,104 @@ struct Extents {
     time: i32,
 }
 
-#[derive(Clone, Copy)]
-enum ExtentsAnswer {
-    Extents(Extents),
-    Refused(Refusal),
+impl Extents {
+    // Whether they are those of a picture. A depth or a time of 0 is left for the checks of the whole file.
+    fn is_stated(self) -> bool
+        ensures { result ≡ stated (stated_of self) }
+    {
+        0 < self.x && 0 < self.y && 0 <= self.z && 0 < self.channels && 0 <= self.time
+    }
 }
 
-#[derive(Clone, Copy)]
-enum VoxelsAnswer {
-    Sizes(Calibration),
-    Refused(Refusal),
-}
-
-#[derive(Clone, Copy)]
-enum ChannelAnswer {
-    Block(ChannelBlock),
-    Refused(Refusal),
-}
-
+// Stage positions and tiles.
 #[derive(Clone, Copy)]
 struct Shots {
     p: i32,
     m: i32,
 }
 
-#[derive(Clone, Copy)]
-enum ShotsAnswer {
-    Shots(Shots),
-    Refused(Refusal),
-}
-
-// `parse` reads the parts only of a block that lies in the file.
-fn read_extents(buf: &[u8], block: usize, e: Endian) -> ExtentsAnswer
-    requires { block + 28 ≤ length buf.now }
-    ensures { extents_of result ≡ extents (order_of e) buf.now block }
+#[tactic(auto, unfolding(lsm_format::specs::CzInfo::extents, lsm_format::specs::Answer::bind))]
+fn read_extents(block: &Block<'_>) -> Result<Extents, Refusal>
+    ensures { answer_by stated_of result ≡ extents (order_of block.now.endian) block.now.buf.now block.now.start }
 {
-    let I32::Value(x) = read_i32(buf, block + DIM_X_AT, e) else {
-        return ExtentsAnswer::Refused(Refusal::Parse);
-    };
-    let I32::Value(y) = read_i32(buf, block + DIM_Y_AT, e) else {
-        return ExtentsAnswer::Refused(Refusal::Parse);
-    };
-    let I32::Value(z) = read_i32(buf, block + DIM_Z_AT, e) else {
-        return ExtentsAnswer::Refused(Refusal::Parse);
-    };
-    let I32::Value(channels) = read_i32(buf, block + DIM_CHANNELS_AT, e) else {
-        return ExtentsAnswer::Refused(Refusal::Parse);
-    };
-    let I32::Value(time) = read_i32(buf, block + DIM_TIME_AT, e) else {
-        return ExtentsAnswer::Refused(Refusal::Parse);
-    };
-    ExtentsAnswer::Extents(Extents {
-        x,
-        y,
-        z,
-        channels,
-        time,
+    Ok(Extents {
+        x: block.number(DIM_X_AT)?,
+        y: block.number(DIM_Y_AT)?,
+        z: block.number(DIM_Z_AT)?,
+        channels: block.number(DIM_CHANNELS_AT)?,
+        time: block.number(DIM_TIME_AT)?,
     })
 }
 
-// Whether the dimensions are those of a picture. A depth or a time of 0 is left for the checks of the whole file.
-fn is_stated(d: Extents) -> bool
-    ensures { result ≡ stated (stated_of d) }
-{
-    if d.x <= 0 {
-        return false;
-    }
-    if d.y <= 0 {
-        return false;
-    }
-    if d.z < 0 {
-        return false;
-    }
-    if d.channels <= 0 {
-        return false;
-    }
-    if d.time < 0 {
-        return false;
-    }
-    true
-}
+// The parts below are read where the block is long enough to hold them: past its end stand other data. Each keeps its own test of the
+// length: a function that took the read as a closure would be no shorter than the test.
 
-// The parts below are read where the block is long enough to hold them: past its end stand other data.
-
-fn read_voxels(buf: &[u8], block: usize, bytes: usize, e: Endian) -> VoxelsAnswer
-    requires { block + bytes ≤ length buf.now }
-    ensures { voxels_of result ≡ from (leb 64 bytes) (voxels (order_of e) buf.now block) uncalibrated }
+#[tactic(auto, unfolding(lsm_format::specs::CzInfo::voxels, lsm_format::specs::Answer::bind))]
+fn read_voxels(block: &Block<'_>) -> Result<Option<Calibration>, Refusal>
+    ensures { answer_by calibration_of result ≡ from (leb 64 block.now.bytes) (voxels (order_of block.now.endian) block.now.buf.now block.now.start) uncalibrated }
 {
-    if bytes < VOXEL_END {
-        return VoxelsAnswer::Sizes(Calibration::Uncalibrated);
+    if block.bytes < VOXEL_END {
+        return Ok(None);
     }
-    let F64Bits::Value(x) = read_f64_bits(buf, block + VOXEL_X_AT, e) else {
-        return VoxelsAnswer::Refused(Refusal::Parse);
-    };
-    let F64Bits::Value(y) = read_f64_bits(buf, block + VOXEL_Y_AT, e) else {
-        return VoxelsAnswer::Refused(Refusal::Parse);
-    };
-    let F64Bits::Value(z) = read_f64_bits(buf, block + VOXEL_Z_AT, e) else {
-        return VoxelsAnswer::Refused(Refusal::Parse);
-    };
-    VoxelsAnswer::Sizes(calibrate(x, y, z))
+    let x = block.float_bits(VOXEL_X_AT)?;
+    let y = block.float_bits(VOXEL_Y_AT)?;
+    let z = block.float_bits(VOXEL_Z_AT)?;
+    Ok(calibrate(x, y, z))
 }
 
 // The place that the block states; one that is not above 0 is none.
-fn placed(n: i32) -> ChannelBlock
-    ensures { block_of result ≡ block_place n }
+fn placed(n: i32) -> Option<usize>
+    ensures { result ≡ block_place n }
 {
-    if n <= 0 {
-        return ChannelBlock::Absent;
-    }
-    ChannelBlock::At((n as u32) as usize)
+    usize::try_from(n).ok().filter(|&at| at > 0)
 }
 
-fn read_channel_block(buf: &[u8], block: usize, bytes: usize, e: Endian) -> ChannelAnswer
-    requires { block + bytes ≤ length buf.now }
-    ensures { channel_of result ≡ from (leb 112 bytes) (channel_block (order_of e) buf.now block) None }
+#[tactic(auto, unfolding(lsm_format::specs::CzInfo::channel_block, lsm_format::specs::Answer::bind))]
+fn read_channel_block(block: &Block<'_>) -> Result<Option<usize>, Refusal>
+    ensures { answer_of result ≡ from (leb 112 block.now.bytes) (channel_block (order_of block.now.endian) block.now.buf.now block.now.start) None }
 {
-    if bytes < CHANNEL_COLORS_END {
-        return ChannelAnswer::Block(ChannelBlock::Absent);
+    if block.bytes < CHANNEL_COLORS_END {
+        return Ok(None);
     }
-    let I32::Value(n) = read_i32(buf, block + CHANNEL_COLORS_AT, e) else {
-        return ChannelAnswer::Refused(Refusal::Parse);
-    };
-    ChannelAnswer::Block(placed(n))
+    let n = block.number(CHANNEL_COLORS_AT)?;
+    Ok(placed(n))
 }
 
-fn read_shots(buf: &[u8], block: usize, bytes: usize, e: Endian) -> ShotsAnswer
-    requires { block + bytes ≤ length buf.now }
-    ensures { shots_of result ≡ from (leb 272 bytes) (shots (order_of e) buf.now block) (pos 1, pos 1) }
+#[tactic(auto, unfolding(lsm_format::specs::CzInfo::shots, lsm_format::specs::Answer::bind))]
+fn read_shots(block: &Block<'_>) -> Result<Shots, Refusal>
+    ensures { answer_by shots_of result ≡ from (leb 272 block.now.bytes) (shots (order_of block.now.endian) block.now.buf.now block.now.start) (pos 1, pos 1) }
 {
-    if bytes < COUNTS_END {
-        return ShotsAnswer::Shots(Shots { p: 1, m: 1 });
+    if block.bytes < COUNTS_END {
+        return Ok(Shots { p: 1, m: 1 });
     }
-    let I32::Value(p) = read_i32(buf, block + DIM_P_AT, e) else {
-        return ShotsAnswer::Refused(Refusal::Parse);
-    };
-    let I32::Value(m) = read_i32(buf, block + DIM_M_AT, e) else {
-        return ShotsAnswer::Refused(Refusal::Parse);
-    };
-    ShotsAnswer::Shots(Shots { p, m })
+    Ok(Shots {
+        p: block.number(DIM_P_AT)?,
+        m: block.number(DIM_M_AT)?,
+    })
 }
 
 // What the block states that the entry announces. The first part that refuses decides.
-pub fn parse(buf: &[u8], tag: CzTag, e: Endian) -> CzAnswer
-    ensures { cz_of result ≡ cz_info (order_of e) buf.now tag.offset tag.declared_bytes }
+#[tactic(auto, unfolding(lsm_format::specs::CzInfo::cz_info, lsm_format::specs::Answer::bind), using(lsm_format::proofs::CzInfo::positive_size, lsm_format::proofs::CzInfo::natural_size, lsm_format::proofs::Told::back))]
+pub fn parse(buf: &[u8], tag: CzTag, e: Endian) -> Result<CzInfo, Refusal>
+    ensures { answer_by info_of result ≡ cz_info (order_of e) buf.now tag.offset tag.declared_bytes }
 {
-    let block = tag.offset;
-    let bytes = match read_header(buf, block, tag.declared_bytes, e) {
-        LengthAnswer::Length(n) => n,
-        LengthAnswer::Refused(r) => return CzAnswer::Refused(r),
-    };
-    let d = match read_extents(buf, block, e) {
-        ExtentsAnswer::Extents(d) => d,
-        ExtentsAnswer::Refused(r) => return CzAnswer::Refused(r),
-    };
-    if !is_stated(d) {
-        return CzAnswer::Refused(Refusal::Unsupported);
+    let block = Block::open(buf, tag, e)?;
+    let d = read_extents(&block)?;
+    if !d.is_stated() {
+        return Err(Refusal::Unsupported);
     }
-    let calibration = match read_voxels(buf, block, bytes, e) {
-        VoxelsAnswer::Sizes(c) => c,
-        VoxelsAnswer::Refused(r) => return CzAnswer::Refused(r),
-    };
-    let channel_colors_offset = match read_channel_block(buf, block, bytes, e) {
-        ChannelAnswer::Block(at) => at,
-        ChannelAnswer::Refused(r) => return CzAnswer::Refused(r),
-    };
-    let s = match read_shots(buf, block, bytes, e) {
-        ShotsAnswer::Shots(s) => s,
-        ShotsAnswer::Refused(r) => return CzAnswer::Refused(r),
-    };
-    CzAnswer::Info(CzInfo {
-        dim_x: d.x as u32,
-        dim_y: d.y as u32,
-        dim_z: d.z as u32,
-        dim_channels: d.channels as u32,
-        dim_time: d.time as u32,
-        dim_p: s.p,
-        dim_m: s.m,
+    let calibration = read_voxels(&block)?;
+    let channel_colors_offset = read_channel_block(&block)?;
+    let shots = read_shots(&block)?;
+    // none of the dimensions is below 0
+    Ok(CzInfo {
+        dim_x: d.x.unsigned_abs(),
+        dim_y: d.y.unsigned_abs(),
+        dim_z: d.z.unsigned_abs(),
+        dim_channels: d.channels.unsigned_abs(),
+        dim_time: d.time.unsigned_abs(),
+        dim_p: shots.p,
+        dim_m: shots.m,
         channel_colors_offset,
         calibration,
     })
