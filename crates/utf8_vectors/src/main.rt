@@ -8,7 +8,6 @@ ghost use Rattle.lsm_format.specs.Utf8.{lossy};
 
 use buffers::{read_full, zeros};
 use std::io;
-use utf8::Decoded;
 use vectors::numbers::holds;
 use vectors::text::bytes_at;
 
@@ -17,8 +16,8 @@ fn agrees(bytes: &[u8], text: &[u8], out: &mut [u8]) -> bool
     ensures { result ≡ true → lossy bytes.now ≡ text.now }
 {
     match utf8::decode_lossy(bytes, out) {
-        Decoded::Length(n) => check::same(&out[..n], text),
-        Decoded::Refused(_) => false,
+        Ok(n) => check::same(&out[..n], text),
+        Err(_) => false,
     }
 }
 
