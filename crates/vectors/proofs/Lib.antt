@@ -1,5 +1,4 @@
 pub mod Digits
-pub mod Lines
-pub mod Samples
-pub mod Compared
-pub mod Prefixes
+pub mod Runs
+pub mod Pairs
+mod Samples

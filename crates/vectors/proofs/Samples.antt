@@ -2,17 +2,24 @@
 use Prim.Native.Nat.{ℕ}
 use mathlib.Core.Path.{◌≡◌, refl}
 use mathlib.Core.List.{List, [], ◌∷◌}
-use Rattle.vectors.specs.Numbers.{digit_of, holds_at, goes_on, number, number_at, spaced, numbers, numbers_at}
-use Rattle.vectors.specs.Lines.{pair_at, run_at, bytes, bytes_at, tail_at, numbers_of, bytes_of, line_at}
+use Rattle.std.specs.Prelude.{Option, Some, None}
+use Rattle.vectors.specs.Numbers.{digit_of, with_digit, digits, number, behind, spaced, numbers}
+use Rattle.vectors.specs.Lines.{pair, run, runs, bytes, tail, said, Read, line}
 
-line : ℕ → List ℕ
-line space = 99 ∷ space ∷ 49 ∷ 102 ∷ 32 ∷ 50 ∷ 58 ∷ 42 ∷ 48 ∷ 51 ∷ 52 ∷ 49 ∷ 97 ∷ 98 ∷ 10 ∷ []
+bytes_part : List ℕ
+bytes_part = 58 ∷ 42 ∷ 48 ∷ 51 ∷ 52 ∷ 49 ∷ 97 ∷ 98 ∷ 10 ∷ []
+
+numbers_part : ℕ → List ℕ
+numbers_part space = space ∷ 49 ∷ 102 ∷ 32 ∷ 50 ∷ bytes_part
+
+ends_the_list : Option Read × List ℕ
+ends_the_list = (Some (record { letter = 99; says = None }), [])
 
 -- the numbers; the bytes; the line; with room for three bytes the line feed isn't reached; with a comma for the first space neither
-sample : (numbers_of (line 32) 0 20 ≡ (31 ∷ 2 ∷ [], 6))
-    × (bytes_of (line 32) 0 20 9 ≡ (65 ∷ 65 ∷ 65 ∷ 171 ∷ [], 14))
-    × (line_at (line 32) 0 20 9 ≡ record { kind = 99; count = 2; len = 4; next = 15 })
-    × (line_at (line 32) 0 20 3 ≡ record { kind = 99; count = 0; len = 0; next = 15 })
-    × (line_at (line 44) 0 20 9 ≡ record { kind = 99; count = 0; len = 0; next = 15 })
-unfolding line digit_of holds_at goes_on number number_at spaced numbers numbers_at pair_at run_at bytes bytes_at tail_at numbers_of bytes_of line_at
+sample : (numbers 20 (numbers_part 32) ≡ (31 ∷ 2 ∷ [], bytes_part))
+    × (tail 9 bytes_part ≡ (65 ∷ 65 ∷ 65 ∷ 171 ∷ [], 10 ∷ []))
+    × (line 20 9 (99 ∷ numbers_part 32) ≡ (Some (record { letter = 99; says = Some (record { numbers = 31 ∷ 2 ∷ []; bytes = 65 ∷ 65 ∷ 65 ∷ 171 ∷ [] }) }), []))
+    × (line 20 3 (99 ∷ numbers_part 32) ≡ ends_the_list)
+    × (line 20 9 (99 ∷ numbers_part 44) ≡ ends_the_list)
+unfolding bytes_part numbers_part ends_the_list digit_of with_digit digits number behind spaced numbers pair run runs bytes tail said line
 sample = (refl, refl, refl, refl, refl)

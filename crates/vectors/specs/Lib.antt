@@ -1,5 +1,5 @@
 pub mod Numbers
 pub mod Lines
+pub mod Code
 pub mod Same
 pub mod Tallies
-pub mod Prefixes

@@ -1,73 +1,93 @@
 -- The lines of a list of recorded answers: the bytes of a line, and the line itself.
-use Rattle.std.specs.Prelude.{ℕ, zero, suc, ◌+◌, ◌-◌, ◌*◌, min, Bool, cond, ◌&&◌, List, [], ◌∷◌, leb, ltb, length, get_or, replicate}
-use Rattle.vectors.specs.Numbers.{digit_of, holds_at, then, numbers_at, over}
-use Rattle.vectors.specs.declared.text.Line.{Line}
-use Rattle.vectors.specs.declared.text.Row.{Row}
+use Rattle.std.specs.Prelude.{ℕ, zero, suc, ◌+◌, ◌-◌, ◌*◌, cond, ◌&&◌, List, [], ◌∷◌, leb, ltb, length, replicate, Option, None, Some}
+use Rattle.vectors.specs.Numbers.{digit_of, behind, then, numbers}
 
--- The byte that two digits are; 256 where one of them is none.
-abbrev pub pair_of : ℕ → ℕ → ℕ
-pair_of high low = cond (ltb high 16 && ltb low 16) (high * 16 + low) 256
+-- The byte that two digits are, and the text behind them.
+abbrev pub pair_of : Option ℕ → Option ℕ → List ℕ → Option (ℕ × List ℕ)
+pair_of (Some high) (Some low) rest = Some (high * 16 + low, rest)
+pair_of (Some high) None rest = None
+pair_of None low rest = None
 
--- The byte at a place. Past the text stands 0, which is no digit.
-unfoldable pub pair_at : List ℕ → ℕ → ℕ
-pair_at text at = pair_of (digit_of (get_or text at 0)) (digit_of (get_or text (at + 1) 0))
+-- The byte that a text begins with.
+unfoldable pub pair : List ℕ → Option (ℕ × List ℕ)
+pair [] = None
+pair (h ∷ []) = None
+pair (h ∷ l ∷ rest) = pair_of (digit_of h) (digit_of l) rest
 
--- A byte once, and a byte n times, with the place after it: nothing where a number is no byte.
-abbrev pub once : ℕ → ℕ → List ℕ × ℕ
-once b at = cond (ltb b 256) (b ∷ [], at + 2) ([], at)
+-- A byte once, and a byte as often as the one before it says.
+abbrev pub once : Option (ℕ × List ℕ) → Option (List ℕ × List ℕ)
+once None = None
+once (Some b) = Some (b.0 ∷ [], b.1)
 
-abbrev pub times : ℕ → ℕ → ℕ → List ℕ × ℕ
-times n b at = cond (ltb n 256 && ltb b 256) (replicate n b, at + 5) ([], at)
+abbrev pub repeated : ℕ → Option (ℕ × List ℕ) → Option (List ℕ × List ℕ)
+repeated n None = None
+repeated n (Some b) = Some (replicate n b.0, b.1)
 
--- What stands at a place: `*NNBB`, which is NN bytes BB, or a byte.
-unfoldable pub run_at : List ℕ → ℕ → List ℕ × ℕ
-run_at text at = cond (holds_at text at 42) (times (pair_at text (at + 1)) (pair_at text (at + 3)) at) (once (pair_at text at) at)
+abbrev pub times : Option (ℕ × List ℕ) → Option (List ℕ × List ℕ)
+times None = None
+times (Some n) = repeated n.0 (pair n.1)
 
--- Whether a part is something, and has room.
-abbrev pub fits : ℕ → ℕ → Bool
-fits n room = ltb 0 n && leb n room
+-- What a text begins with: `*NNBB`, which is NN bytes BB, or a byte.
+abbrev pub run_by : Option (List ℕ) → List ℕ → Option (List ℕ × List ℕ)
+run_by None text = once (pair text)
+run_by (Some rest) text = times (pair rest)
 
--- What stands one after the other as long as it has room, and where it ends; asked at most k times.
-unfoldable pub bytes : ℕ → ℕ → List ℕ → ℕ → List ℕ × ℕ
-bytes zero room text at = ([], at)
-bytes (suc k) room text at =
-    cond (fits (length (run_at text at).0) room) (then (run_at text at).0 (bytes k (room - length (run_at text at).0) text (run_at text at).1)) ([], at)
+unfoldable pub run : List ℕ → Option (List ℕ × List ℕ)
+run text = run_by (behind 42 text) text
 
--- The bytes from a place on; past the text there are none, and they end where the text does. Each part has a byte, so that as many
--- questions as there is room are enough.
-unfoldable pub bytes_at : List ℕ → ℕ → ℕ → List ℕ × ℕ
-bytes_at text from room = bytes room room text (min from (length text))
+-- That, where it is something and has room.
+abbrev pub fitting : ℕ → Option (List ℕ × List ℕ) → Option (List ℕ × List ℕ)
+fitting room None = None
+fitting room (Some r) = cond (ltb 0 (length r.0) && leb (length r.0) room) (Some r) None
 
--- The bytes after a colon; none where there is no colon.
-unfoldable pub tail_at : List ℕ → ℕ → ℕ → List ℕ × ℕ
-tail_at text at room = cond (holds_at text at 58) (bytes_at text (at + 1) room) ([], at)
+-- What a text begins with, one run behind the other as long as it has room, and the text behind it; asked at most k times.
+unfoldable pub runs : ℕ → ℕ → List ℕ → List ℕ × List ℕ
+runs zero room text = ([], text)
+runs (suc k) room text = elim (fitting room (run text)) [ None ↦ ([], text) | Some r ↦ then r.0 (runs k (room - length r.0) r.1) ]
 
--- The numbers of the line at a place, and its bytes, with room for `wide` and `long` of them; and where they end.
-unfoldable pub numbers_of : List ℕ → ℕ → ℕ → List ℕ × ℕ
-numbers_of text at wide = numbers_at text (at + 1) wide
+-- The bytes that a text begins with, and the text behind them. Each run has a byte, so that as many questions as there is room are enough.
+unfoldable pub bytes : ℕ → List ℕ → List ℕ × List ℕ
+bytes room text = runs room room text
 
-unfoldable pub bytes_of : List ℕ → ℕ → ℕ → ℕ → List ℕ × ℕ
-bytes_of text at wide long = tail_at text (numbers_of text at wide).1 long
+-- The bytes behind a colon; none where there is no colon.
+abbrev pub tail_by : ℕ → Option (List ℕ) → List ℕ → List ℕ × List ℕ
+tail_by room None text = ([], text)
+tail_by room (Some rest) text = bytes room rest
 
--- A line that has the form, and one that has not, which ends the list.
-abbrev pub line_of : Bool → ℕ → List ℕ × ℕ → List ℕ × ℕ → ℕ → Line
-line_of whole kind ns bs end =
-    cond whole
-    (record { kind = kind; count = length ns.0; len = length bs.0; next = bs.1 + 1 })
-    (record { kind = kind; count = 0; len = 0; next = end })
+unfoldable pub tail : ℕ → List ℕ → List ℕ × List ℕ
+tail room text = tail_by room (behind 58 text) text
 
--- The line at a place: a letter, numbers, bytes, and a line feed.
-unfoldable pub line_at : List ℕ → ℕ → ℕ → ℕ → Line
-line_at text at wide long =
-    line_of (holds_at text (bytes_of text at wide long).1 10) (get_or text at 0) (numbers_of text at wide) (bytes_of text at wide long) (length text)
+-- What a line says: its numbers and its bytes.
+pub record Says : Type 0 where
+  pub numbers : List ℕ
+  pub bytes : List ℕ
 
--- The same with the numbers that were read, twenty at most, also where the line hasn't the form; the others of the twenty are 0.
-unfoldable pub row_at : List ℕ → ℕ → ℕ → Row
-row_at text at long =
-    record {
-      kind = (line_at text at 20 long).kind;
-      numbers = over (numbers_of text at 20).0 (replicate 20 0);
-      count = (line_at text at 20 long).count;
-      len = (line_at text at 20 long).len;
-      next = (line_at text at 20 long).next;
-    }
+-- What the line says whose letter stands before a text, and the text behind the line: numbers, bytes, and a line feed, with room for `wide`
+-- numbers and `long` bytes. None where it hasn't the form.
+abbrev pub ended : List ℕ → List ℕ → Option (List ℕ) → Option (Says × List ℕ)
+ended ns bs None = None
+ended ns bs (Some rest) = Some (record { numbers = ns; bytes = bs }, rest)
+
+abbrev pub tailed : List ℕ → List ℕ × List ℕ → Option (Says × List ℕ)
+tailed ns bs = ended ns bs.0 (behind 10 bs.1)
+
+abbrev pub numbered : ℕ → List ℕ × List ℕ → Option (Says × List ℕ)
+numbered long ns = tailed ns.0 (tail long ns.1)
+
+unfoldable pub said : ℕ → ℕ → List ℕ → Option (Says × List ℕ)
+said wide long text = numbered long (numbers wide text)
+
+-- A line: its letter, and what it says, if it has the form.
+pub record Read : Type 0 where
+  pub letter : ℕ
+  pub says : Option Says
+
+-- A line that hasn't the form ends the list.
+abbrev pub line_by : ℕ → Option (Says × List ℕ) → Option Read × List ℕ
+line_by letter None = (Some (record { letter = letter; says = None }), [])
+line_by letter (Some s) = (Some (record { letter = letter; says = Some s.0 }), s.1)
+
+-- The line that a text begins with, and the text behind it; none at the text's end.
+unfoldable pub line : ℕ → ℕ → List ℕ → Option Read × List ℕ
+line wide long [] = (None, [])
+line wide long (letter ∷ text) = line_by letter (said wide long text)

@@ -1,55 +1,50 @@
--- The numbers of a list of recorded answers: what stands at a place of the text, and where it ends.
-use Rattle.std.specs.Prelude.{ℕ, zero, suc, ◌+◌, ◌-◌, ◌*◌, ◌^◌, min, ◌≡◌, Bool, cond, ◌&&◌, List, [], ◌∷◌, ◌++◌, leb, ltb, eqb, length, drop, get_or}
+-- The numbers of a list of recorded answers: what a text begins with, and what follows it.
+use Rattle.std.specs.Prelude.{ℕ, zero, suc, ◌+◌, ◌-◌, ◌*◌, ◌^◌, Bool, cond, ◌&&◌, List, [], ◌∷◌, ◌++◌, leb, ltb, eqb, Option, None, Some}
 
 -- Whether a number is from low to high.
 abbrev pub within : ℕ → ℕ → ℕ → Bool
 within low high b = leb low b && leb b high
 
--- The value of a hexadecimal digit, 0 to 9 and a to f; 16 for another byte.
-unfoldable pub digit_of : ℕ → ℕ
-digit_of b = cond (within 48 57 b) (b - 48) (cond (within 97 102 b) (b - 97 + 10) 16)
+-- The value of a hexadecimal digit, 0 to 9 and a to f; none for another byte.
+unfoldable pub digit_of : ℕ → Option ℕ
+digit_of b = cond (within 48 57 b) (Some (b - 48)) (cond (within 97 102 b) (Some (b - 97 + 10)) None)
 
--- Whether a byte stands at a place.
-unfoldable pub holds_at : List ℕ → ℕ → ℕ → Bool
-holds_at text at b = ltb at (length text) && eqb (get_or text at 0) b
+-- A number with a digit more behind it. A byte that is no digit, or would take the number past 64 bits, is none.
+abbrev pub put_digit : ℕ → Option ℕ → Option ℕ
+put_digit value None = None
+put_digit value (Some d) = cond (ltb (value * 16 + d) (2 ^ 64)) (Some (value * 16 + d)) None
 
--- Whether a number goes on with a byte: that is a digit, and the number stays within 64 bits.
-unfoldable pub goes_on : ℕ → ℕ → Bool
-goes_on value b = ltb (digit_of b) 16 && ltb (value * 16 + digit_of b) (2 ^ 64)
+unfoldable pub with_digit : ℕ → ℕ → Option ℕ
+with_digit value b = put_digit value (digit_of b)
 
--- What a value and a place come to with the bytes that follow: the value of all the digits, and the place after them.
-unfoldable pub number : ℕ → ℕ → List ℕ → ℕ × ℕ
-number value at [] = (value, at)
-number value at (b ∷ bs) = cond (goes_on value b) (number (value * 16 + digit_of b) (at + 1) bs) (value, at)
+-- What a value comes to with the digits that a text begins with, and the text behind them.
+unfoldable pub digits : ℕ → List ℕ → ℕ × List ℕ
+digits value [] = (value, [])
+digits value (b ∷ bs) = elim (with_digit value b) [ None ↦ (value, b ∷ bs) | Some more ↦ digits more bs ]
 
--- The number at a place, and where it ends. Without a digit it is 0 and ends where it begins; past the text that is the text's end.
-unfoldable pub number_at : List ℕ → ℕ → ℕ × ℕ
-number_at text from = number 0 (min from (length text)) (drop from text)
+-- The number that a text begins with, which has a digit at least, and the text behind it.
+unfoldable pub number : List ℕ → Option (ℕ × List ℕ)
+number [] = None
+number (b ∷ bs) = elim (with_digit 0 b) [ None ↦ None | Some value ↦ Some (digits value bs) ]
 
--- Whether a space and a number stand at a place.
-unfoldable pub spaced : List ℕ → ℕ → Bool
-spaced text at = holds_at text at 32 && ltb (at + 1) (number_at text (at + 1)).1
+-- The text behind a byte, where it begins with that.
+unfoldable pub behind : ℕ → List ℕ → Option (List ℕ)
+behind b [] = None
+behind b (x ∷ xs) = cond (eqb x b) (Some xs) None
 
--- A part that was read, and what was read after it.
-abbrev pub then : List ℕ → List ℕ × ℕ → List ℕ × ℕ
+-- The number behind a space.
+abbrev pub number_in : Option (List ℕ) → Option (ℕ × List ℕ)
+number_in None = None
+number_in (Some rest) = number rest
+
+unfoldable pub spaced : List ℕ → Option (ℕ × List ℕ)
+spaced text = number_in (behind 32 text)
+
+-- A part that was read, and what was read behind it.
+abbrev pub then : List ℕ → List ℕ × List ℕ → List ℕ × List ℕ
 then part rest = (part ++ rest.0, rest.1)
 
--- Numbers with a space before each, as many as there is room for, and where they end.
-unfoldable pub numbers : ℕ → List ℕ → ℕ → List ℕ × ℕ
-numbers zero text at = ([], at)
-numbers (suc room) text at =
-    cond (spaced text at) (then ((number_at text (at + 1)).0 ∷ []) (numbers room text (number_at text (at + 1)).1)) ([], at)
-
--- The numbers from a place on; past the text there are none, and they end where the text does.
-unfoldable pub numbers_at : List ℕ → ℕ → ℕ → List ℕ × ℕ
-numbers_at text from room = numbers room text (min from (length text))
-
--- What was read, put at the front of lent memory; what is past it stays.
-unfoldable pub over : List ℕ → List ℕ → List ℕ
-over read memory = read ++ drop (length read) memory
-
--- What a function that reads into lent memory answers and leaves: how many it read, where they end, and themselves at the front.
-pub record Reads (read : List ℕ × ℕ) (before after : List ℕ) (count next : ℕ) : Type 0 where
-  pub many : count ≡ length read.0
-  pub ends : next ≡ read.1
-  pub memory : after ≡ over read.0 before
+-- The numbers that a text begins with, a space before each, as many as there is room for, and the text behind them.
+unfoldable pub numbers : ℕ → List ℕ → List ℕ × List ℕ
+numbers zero text = ([], text)
+numbers (suc room) text = elim (spaced text) [ None ↦ ([], text) | Some r ↦ then (r.0 ∷ []) (numbers room r.1) ]

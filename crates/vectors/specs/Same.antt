@@ -1,29 +1,28 @@
--- What it is for lists to be the same, and for lent memory to hold what was in it before.
-use Rattle.std.specs.Prelude.{ℕ, min, Bool, true, false, ◌&&◌, List, [], ◌∷◌, leb, ltb, eqb, length, take, drop, get_or}
+-- What it is for words to say what is lent, and for lent memory to hold what was in it before. `number` says what a thing that is lent is.
+use Rattle.std.specs.Prelude.{ℕ, min, Bool, ◌&&◌, List, leb, ltb, eqb, length, take, drop, get_or}
+use Rattle.std.specs.List.{list_all}
+use Rattle.std.specs.Cmp.Lexicographic.{pointwise}
 
--- Whether two lists have the same numbers in the same places, and no more.
-unfoldable pub same : List ℕ → List ℕ → Bool
-same [] [] = true
-same [] (y ∷ ys) = false
-same (x ∷ xs) [] = false
-same (x ∷ xs) (y ∷ ys) = eqb x y && same xs ys
+module _ {X : Type 0} (number : X → ℕ) where
+  -- Whether words are the numbers of what is lent, in the same places, and no more.
+  abbrev pub same : List ℕ → List X → Bool
+  same words lent = pointwise (λ w x. eqb w (number x)) words lent
 
--- What lent bytes hold before a call.
-abbrev pub lent_byte : ℕ
-lent_byte = 165
+  -- Whether the number of everything lent is v.
+  abbrev pub kept : ℕ → List X → Bool
+  kept v lent = list_all (λ x. eqb (number x) v) lent
 
--- Whether every number of a list is v.
-unfoldable pub kept : ℕ → List ℕ → Bool
-kept v [] = true
-kept v (x ∷ xs) = eqb x v && kept v xs
+  -- Whether words are the first n of what is lent, which is as many.
+  abbrev pub same_front : List ℕ → List X → ℕ → Bool
+  same_front words lent n = leb n (length lent) && same words (take n lent)
 
--- Whether a list is the first n of another, which has as many.
-unfoldable pub same_front : List ℕ → List ℕ → ℕ → Bool
-same_front a b n = leb n (length b) && same a (take n b)
+  -- The same, and everything past those is v.
+  abbrev pub same_then_kept : ℕ → List ℕ → List X → ℕ → Bool
+  same_then_kept v words lent n = same_front words lent n && kept v (drop n lent)
 
--- The same, and every number past those is v.
-unfoldable pub same_then_kept : ℕ → List ℕ → List ℕ → ℕ → Bool
-same_then_kept v a b n = same_front a b n && kept v (drop n b)
+-- What words and bytes are.
+abbrev pub itself : ℕ → ℕ
+itself n = n
 
 -- How many of the numbers said are words of an answer that has `most`; the others are in lent memory.
 abbrev pub in_answer : List ℕ → ℕ → ℕ
@@ -33,4 +32,5 @@ in_answer said most = min (length said) most
 -- `most` at most, with zeros after them.
 unfoldable pub same_answer : List ℕ → ℕ → List ℕ → ℕ → Bool
 same_answer said number answer most =
-    ltb 0 (in_answer said most) && eqb (get_or said 0 0) number && same_then_kept 0 (take (in_answer said most) said) answer (in_answer said most)
+    ltb 0 (in_answer said most) && eqb (get_or said 0 0) number
+    && same_then_kept itself 0 (take (in_answer said most) said) answer (in_answer said most)

@@ -1,101 +1,72 @@
 // Hexadecimal numbers of a list of recorded answers.
-ghost use Rattle.std.specs.Prelude.{◌≡◌, true, ◌<◌, ◌≤◌, length};
-ghost use Rattle.vectors.specs.Prefixes.{IsPrefixLen};
-ghost use Rattle.vectors.specs.Numbers.{digit_of, holds_at, number_at, numbers_at, Reads};
+ghost use Rattle.std.specs.Prelude.{◌≡◌, ◌<◌, ◌≤◌, length, IfSome, option_map};
+ghost use Rattle.vectors.specs.Numbers.{digit_of, with_digit, number, spaced, numbers};
 
-// The value of a hexadecimal digit; 16 for another byte.
-pub(crate) fn digit(b: u8) -> u8
+use arrayvec::ArrayVec;
+
+// The value of a hexadecimal digit.
+#[tactic(auto, unfolding(crate::specs::Numbers::digit_of))]
+pub(crate) fn digit(b: u8) -> Option<u8>
     ensures value { result ≡ digit_of b }
-    ensures small { result ≤ 16 }
+    ensures small { IfSome result (λ d. d < 16) }
 {
     match b {
-        b'0'..=b'9' => b - b'0',
-        b'a'..=b'f' => b - b'a' + 10,
-        _ => 16,
+        b'0'..=b'9' => Some(b - b'0'),
+        b'a'..=b'f' => Some(b - b'a' + 10),
+        _ => None,
     }
 }
 
-// Whether a byte stands at a place.
-pub fn holds(text: &[u8], at: usize, b: u8) -> bool
-    ensures value { result ≡ holds_at text.now at b }
-    ensures inside { result ≡ true → at < length text.now }
+// A number with a digit more behind it: none where the byte is no digit, or the number would pass 64 bits.
+#[tactic(auto, unfolding(crate::specs::Numbers::with_digit))]
+fn with_digit(value: usize, b: u8) -> Option<usize>
+    ensures { result ≡ with_digit value b }
 {
-    if at < text.len() {
-        text[at] == b
-    } else {
-        false
-    }
+    let d = digit(b)?;
+    value.checked_mul(16)?.checked_add(usize::from(d))
 }
 
-#[derive(Clone, Copy)]
-pub(crate) struct Number {
-    pub value: usize,
-    pub next: usize,
-}
-
-// The number at a place, and where it ends: at the place itself where there is none, and at the text's end where the place is
-// past it. A digit that would pass 64 bits ends it.
-pub(crate) fn number_at(text: &[u8], from: usize) -> Number
-    ensures value_value { (result.value ≡ (number_at text.now from).0) × (result.next ≡ (number_at text.now from).1) }
-    ensures inside { result.next ≤ length text.now }
-    ensures onward { from ≤ length text.now → from ≤ result.next }
+// The number that a text begins with, and the text behind it. A digit that would pass 64 bits ends it.
+#[tactic(auto, unfolding(crate::specs::Numbers::number, crate::specs::Numbers::digits))]
+fn number(text: &[u8]) -> Option<(usize, &[u8])>
+    ensures value { option_map (λ r. (r.0, r.1.now)) result ≡ number text.now }
+    ensures behind { IfSome result (λ r. length r.1.now ≤ length text.now) }
 {
-    if text.len() < from {
-        return Number {
-            value: 0,
-            next: text.len(),
+    let (first, mut rest) = text.split_first()?;
+    let mut value = with_digit(0, *first)?;
+    while let Some((b, after)) = rest.split_first() {
+        let Some(more) = with_digit(value, *b) else {
+            break;
         };
+        value = more;
+        rest = after;
     }
-    let mut value: usize = 0;
-    let mut at = from;
-    while at < text.len() {
-        let d = digit(text[at]);
-        if d == 16 {
-            return Number { value, next: at };
-        }
-        if 0x0fff_ffff_ffff_ffff < value {
-            return Number { value, next: at };
-        }
-        value = value * 16 + d as usize;
-        at += 1;
-    }
-    Number { value, next: at }
+    Some((value, rest))
 }
 
-// What was read: how many, and where it ends.
-#[derive(Clone, Copy)]
-pub struct Field {
-    pub count: usize,
-    pub next: usize,
-}
-
-// Reads numbers with a space before each: how many there were, and where they end. None, and the text's end, where the place is
-// past it.
-pub(crate) fn numbers_at(text: &[u8], from: usize, numbers: &mut [usize]) -> Field
-    ensures reads { Reads (numbers_at text.now from (length numbers.old)) numbers.old numbers.new result.count result.next }
-    ensures short { IsPrefixLen result.count numbers.new }
-    ensures inside { result.next ≤ length text.now }
-    ensures onward { from ≤ length text.now → from ≤ result.next }
+// The number behind a space.
+#[tactic(auto, using(crate::proofs::Digits::behind_is, crate::proofs::Digits::behind_not), unfolding(crate::specs::Numbers::spaced))]
+fn spaced(text: &[u8]) -> Option<(usize, &[u8])>
+    ensures value { option_map (λ r. (r.0, r.1.now)) result ≡ spaced text.now }
+    ensures behind { IfSome result (λ r. length r.1.now ≤ length text.now) }
 {
-    if text.len() < from {
-        return Field {
-            count: 0,
-            next: text.len(),
+    number(text.strip_prefix(b" ")?)
+}
+
+// The numbers that a text begins with, a space before each, as many as there is room for, and the text behind them.
+#[tactic(auto, unfolding(crate::specs::Numbers::numbers))]
+pub(crate) fn numbers<const N: usize>(text: &[u8]) -> (ArrayVec<usize, N>, &[u8])
+    ensures value { (result.0.items, result.1.now) ≡ numbers N text.now }
+    ensures behind { length result.1.now ≤ length text.now }
+{
+    let mut numbers = ArrayVec::new();
+    let mut rest = text;
+    while !numbers.is_full() {
+        let Some((value, after)) = spaced(rest) else {
+            break;
         };
+        numbers.push(value);
+        rest = after;
     }
-    let mut at = from;
-    let mut n = 0;
-    while n < numbers.len() {
-        if !holds(text, at, b' ') {
-            return Field { count: n, next: at };
-        }
-        let number = number_at(text, at + 1);
-        if number.next == at + 1 {
-            return Field { count: n, next: at };
-        }
-        numbers[n] = number.value;
-        n += 1;
-        at = number.next;
-    }
-    Field { count: n, next: at }
+    (numbers, rest)
 }

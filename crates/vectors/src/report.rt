@@ -6,53 +6,41 @@ ghost use Rattle.vectors.specs.Tallies.{one_more, report_text};
 use std::io;
 use std::io::Write;
 
+// How many lines there were, and how many of them differ.
 #[derive(Clone, Copy)]
 pub struct Tally {
     pub cases: usize,
     pub differ: usize,
+    ghost few: { differ ≤ cases },
 }
 
-fn one_more(n: usize) -> usize
-    ensures { result ≡ one_more n }
-{
-    if n < 0xffff_ffff_ffff_ffff {
-        return n + 1;
-    }
-    n
-}
+impl Default for Tally {
+    ghost is_default = { λ t. (t.cases ≡ 0) × (t.differ ≡ 0) };
 
-impl Tally {
-    pub fn none() -> Tally
-        ensures { (result.cases ≡ 0) × (result.differ ≡ 0) }
-    {
+    fn default() -> Tally {
         Tally {
             cases: 0,
             differ: 0,
         }
     }
+}
 
-    // With a line more. The greatest count stays.
-    pub fn counted(self, agrees: bool) -> Tally
-        ensures cases_value { (result.cases ≡ one_more self.cases) × (result.differ ≡ cond agrees self.differ (one_more self.differ)) }
-        ensures few { result.differ ≤ one_more self.differ }
+impl Tally {
+    // Counts a line more. The greatest count stays.
+    pub fn count(&mut self, agrees: bool)
+        ensures cases { self.new.cases ≡ one_more self.old.cases }
+        ensures differ { self.new.differ ≡ cond agrees self.old.differ (one_more self.old.differ) }
     {
-        if agrees {
-            return Tally {
-                cases: one_more(self.cases),
-                differ: self.differ,
-            };
-        }
-        Tally {
-            cases: one_more(self.cases),
-            differ: one_more(self.differ),
+        self.cases = self.cases.saturating_add(1);
+        if !agrees {
+            self.differ = self.differ.saturating_add(1);
         }
     }
 }
 
 // Writes how many lines of a list there are, and how many differ.
-pub fn report<W: Write>(out: &mut W, name: &[u8], t: Tally) -> io::Result<()>
+pub fn report<W: Write>(out: &mut W, name: &str, t: Tally) -> io::Result<()>
     ensures { OnOk result (Appends (W.contents out.old) (W.contents out.new) (report_text name.now t.cases t.differ)) }
 {
-    out.write_all(name)?;
-    writeln!(out, "{}, {} differ", t.cases, t.differ)
+    writeln!(out, "{name}{}, {} differ", t.cases, t.differ)
 }

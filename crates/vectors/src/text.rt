@@ -1,207 +1,167 @@
 // The lines of a list of recorded answers. A line is a letter, then hexadecimal numbers with a space before each, then a colon and
 // bytes where the case has any. Two digits are a byte, and `*NNBB` is NN bytes BB.
-ghost use Rattle.std.specs.Prelude.{◌≡◌, ◌++◌, ◌+◌, ◌-◌, ◌<◌, ◌≤◌, length, take, drop, replicate};
-ghost use Rattle.vectors.specs.Prefixes.{IsPrefixLen};
-ghost use Rattle.vectors.specs.Numbers.{over, Reads};
-ghost use Rattle.vectors.specs.Lines.{pair_at, run_at, bytes_at, tail_at, numbers_of, bytes_of, line_at, row_at};
+ghost use Rattle.std.specs.Prelude.{◌≡◌, ◌++◌, ◌+◌, ◌^◌, ◌<◌, ◌≤◌, length, replicate, option_map, IfSome};
+ghost use Rattle.std.specs.Iterator.{at_most};
+ghost use Rattle.arrayvec.specs.ArrayVec.{array_vec_len};
+ghost use Rattle.vectors.specs.Code.{says_of, line_of};
+ghost use Rattle.vectors.specs.Lines.{pair, run, fitting, bytes, tail, said, line};
 
-use crate::numbers::{Field, digit, holds, numbers_at};
+use crate::numbers::{digit, numbers};
+use arrayvec::ArrayVec;
 
-// The byte that two digits at a place are; 256 where they are not there.
-fn pair(text: &[u8], at: usize) -> usize
-    ensures value { result ≡ pair_at text.now at }
-    ensures inside { (result ≤ 256) × (result < 256 → at + 2 ≤ length text.now) }
+// The byte that a text begins with, and the text behind it.
+#[tactic(auto, unfolding(crate::specs::Lines::pair))]
+fn pair(text: &[u8]) -> Option<(u8, &[u8])>
+    ensures value { option_map (λ r. (r.0, r.1.now)) result ≡ pair text.now }
+    ensures behind { IfSome result (λ r. length r.1.now ≤ length text.now) }
 {
-    if text.len() < 2 {
-        return 256;
-    }
-    if text.len() - 2 < at {
-        return 256;
-    }
-    let high = digit(text[at]);
-    let low = digit(text[at + 1]);
-    if high == 16 {
-        return 256;
-    }
-    if low == 16 {
-        return 256;
-    }
-    (high * 16 + low) as usize
-}
-
-// A byte as often as it stands one after the other; `times` is 0 where there is none.
-#[derive(Clone, Copy)]
-struct Run {
-    times: usize,
-    byte: u8,
-    next: usize,
-}
-
-fn run_at(text: &[u8], at: usize) -> Run
-    requires { at ≤ length text.now }
-    ensures at_value { run_at text.now at ≡ (replicate result.times result.byte, result.next) }
-    ensures inside { (at ≤ result.next) × (result.next ≤ length text.now) }
-{
-    let none = Run {
-        times: 0,
-        byte: 0,
-        next: at,
+    let [high, low, rest @ ..] = text else {
+        return None;
     };
-    if holds(text, at, b'*') {
-        let times = pair(text, at + 1);
-        if times == 256 {
-            return none;
-        }
-        let b = pair(text, at + 3);
-        if b == 256 {
-            return none;
-        }
-        return Run {
-            times,
-            byte: b as u8,
-            next: at + 5,
-        };
-    }
-    let b = pair(text, at);
-    if b == 256 {
-        return none;
-    }
-    Run {
-        times: 1,
-        byte: b as u8,
-        next: at + 2,
-    }
+    Some((digit(*high)? * 16 + digit(*low)?, rest))
 }
 
-// Writes a byte over a part.
-fn fill(bytes: &mut [u8], from: usize, end: usize, b: u8)
-    requires { (from ≤ end) × (end ≤ length bytes.old) }
-    ensures bytes_after { take end bytes.new ≡ take from bytes.old ++ replicate (end - from) b }
-    ensures bytes_unchanged { drop end bytes.new ≡ drop end bytes.old }
-{
-    let mut i = from;
-    while i < end {
-        bytes[i] = b;
-        i += 1;
-    }
-}
-
-// Reads bytes from a place on: how many there were, and where they end. None, and the text's end, where the place is past it.
-pub fn bytes_at(text: &[u8], from: usize, bytes: &mut [u8]) -> Field
-    ensures reads { Reads (bytes_at text.now from (length bytes.old)) bytes.old bytes.new result.count result.next }
-    ensures short { IsPrefixLen result.count bytes.new }
-    ensures inside { result.next ≤ length text.now }
-    ensures onward { from ≤ length text.now → from ≤ result.next }
-{
-    if text.len() < from {
-        return Field {
-            count: 0,
-            next: text.len(),
-        };
-    }
-    let mut at = from;
-    let mut n = 0;
-    while n < bytes.len() {
-        let run = run_at(text, at);
-        if run.times == 0 {
-            return Field { count: n, next: at };
-        }
-        if bytes.len() - n < run.times {
-            return Field { count: n, next: at };
-        }
-        fill(bytes, n, n + run.times, run.byte);
-        n += run.times;
-        at = run.next;
-    }
-    Field { count: n, next: at }
-}
-
-// The bytes after a colon; none where there is no colon.
-fn tail_at(text: &[u8], at: usize, bytes: &mut [u8]) -> Field
-    requires { at ≤ length text.now }
-    ensures reads { Reads (tail_at text.now at (length bytes.old)) bytes.old bytes.new result.count result.next }
-    ensures short { IsPrefixLen result.count bytes.new }
-    ensures inside { (at ≤ result.next) × (result.next ≤ length text.now) }
-{
-    if holds(text, at, b':') {
-        return bytes_at(text, at + 1, bytes);
-    }
-    Field { count: 0, next: at }
-}
-
-// A line: its letter, how many numbers and bytes it has, and where the next begins. `count` is 0 where it hasn't the form.
+// A byte as often as it stands one behind the other.
 #[derive(Clone, Copy)]
-pub struct Line {
-    pub kind: u8,
-    pub count: usize,
-    pub len: usize,
-    pub next: usize,
+struct Repeated {
+    times: u8,
+    byte: u8,
 }
 
-// The line at a place, its numbers and bytes in lent memory. One that hasn't the form, or has no room there, ends the list, and so
-// does a place past the end; what was read of it is in lent memory all the same.
-pub fn line_at(text: &[u8], at: usize, numbers: &mut [usize], bytes: &mut [u8]) -> Line
-    ensures value { result ≡ line_at text.now at (length numbers.old) (length bytes.old) }
-    ensures numbers_after { numbers.new ≡ over (numbers_of text.now at (length numbers.old)).0 numbers.old }
-    ensures bytes_after { bytes.new ≡ over (bytes_of text.now at (length numbers.old) (length bytes.old)).0 bytes.old }
-    ensures short { IsPrefixLen result.count numbers.new × IsPrefixLen result.len bytes.new }
-    ensures inside { result.next ≤ length text.now }
-    ensures onward { at < length text.now → at < result.next }
-    ensures ended { length text.now ≤ at → result.count ≡ 0 }
+// The run that a text begins with, and the text behind it.
+#[tactic(auto, using(crate::proofs::Digits::behind_is, crate::proofs::Digits::behind_not), unfolding(crate::specs::Lines::run))]
+fn run(text: &[u8]) -> Option<(Repeated, &[u8])>
+    ensures value { option_map (λ r. (replicate r.0.times r.0.byte, r.1.now)) result ≡ run text.now }
+    ensures behind { IfSome result (λ r. length r.1.now ≤ length text.now) }
 {
-    if text.len() <= at {
-        return Line {
-            kind: 0,
-            count: 0,
-            len: 0,
-            next: text.len(),
-        };
-    }
-    let kind = text[at];
-    let n = numbers_at(text, at + 1, numbers);
-    let f = tail_at(text, n.next, bytes);
-    if !holds(text, f.next, b'\n') {
-        return Line {
-            kind,
-            count: 0,
-            len: 0,
-            next: text.len(),
-        };
-    }
-    Line {
-        kind,
-        count: n.count,
-        len: f.count,
-        next: f.next + 1,
+    match text.strip_prefix(b"*") {
+        Some(rest) => {
+            let (times, rest) = pair(rest)?;
+            let (byte, rest) = pair(rest)?;
+            Some((Repeated { times, byte }, rest))
+        }
+        None => {
+            let (byte, rest) = pair(text)?;
+            Some((Repeated { times: 1, byte }, rest))
+        }
     }
 }
 
-// A line of twenty numbers at most: the first `count` of `numbers` are its own.
-#[derive(Clone, Copy)]
-pub struct Row {
-    pub kind: u8,
-    pub numbers: [usize; 20],
-    pub count: usize,
-    pub len: usize,
-    pub next: usize,
-}
-
-// The line at a place with its numbers, its bytes in lent memory.
-pub fn row_at(text: &[u8], at: usize, bytes: &mut [u8]) -> Row
-    ensures value { result ≡ row_at text.now at (length bytes.old) }
-    ensures bytes_after { bytes.new ≡ over (bytes_of text.now at 20 (length bytes.old)).0 bytes.old }
-    ensures short { IsPrefixLen result.len bytes.new }
-    ensures inside { (result.next ≤ length text.now) × (result.count ≤ 20) }
-    ensures onward { at < length text.now → at < result.next }
-    ensures ended { length text.now ≤ at → result.count ≡ 0 }
+// The same, where it has a byte and there is room for it.
+fn fitting(text: &[u8], room: usize) -> Option<(Repeated, &[u8])>
+    ensures value { option_map (λ r. (replicate r.0.times r.0.byte, r.1.now)) result ≡ fitting room (run text.now) }
+    ensures behind { IfSome result (λ r. length r.1.now ≤ length text.now) }
 {
-    let mut numbers = [0usize; 20];
-    let line = line_at(text, at, &mut numbers, bytes);
-    Row {
-        kind: line.kind,
-        numbers,
-        count: line.count,
-        len: line.len,
-        next: line.next,
+    let (run, rest) = run(text)?;
+    if run.times == 0 || room < usize::from(run.times) {
+        return None;
+    }
+    Some((run, rest))
+}
+
+// Puts a run behind bytes that have room for it.
+fn push_run<const N: usize>(bytes: &mut ArrayVec<u8, N>, run: Repeated)
+    requires { array_vec_len bytes.old + run.times ≤ N }
+    ensures { bytes.new.items ≡ bytes.old.items ++ replicate run.times run.byte }
+{
+    for _ in 0..run.times {
+        bytes.push(run.byte);
+    }
+}
+
+// The bytes that a text begins with, run behind run as long as there is room, and the text behind them.
+#[tactic(auto, using(crate::proofs::Runs::bytes_end, std::proofs::lemmas::Grind::common_steps))]
+pub fn bytes<const N: usize>(text: &[u8]) -> (ArrayVec<u8, N>, &[u8])
+    ensures value { (result.0.items, result.1.now) ≡ bytes N text.now }
+    ensures behind { length result.1.now ≤ length text.now }
+{
+    let mut bytes = ArrayVec::new();
+    let mut rest = text;
+    while let Some((run, after)) = fitting(rest, N - bytes.len()) {
+        push_run(&mut bytes, run);
+        rest = after;
+    }
+    (bytes, rest)
+}
+
+// The bytes behind a colon; none where there is no colon.
+#[tactic(auto, using(crate::proofs::Digits::behind_is, crate::proofs::Digits::behind_not), unfolding(crate::specs::Lines::tail))]
+fn tail<const N: usize>(text: &[u8]) -> (ArrayVec<u8, N>, &[u8])
+    ensures value { (result.0.items, result.1.now) ≡ tail N text.now }
+    ensures behind { length result.1.now ≤ length text.now }
+{
+    match text.strip_prefix(b":") {
+        Some(rest) => bytes(rest),
+        None => (ArrayVec::new(), text),
+    }
+}
+
+// What a line says: its numbers and its bytes.
+#[derive(Drop)]
+pub struct Said<const N: usize, const M: usize> {
+    pub numbers: ArrayVec<usize, N>,
+    pub bytes: ArrayVec<u8, M>,
+}
+
+// What the line says whose letter stands before a text, and the text behind the line. None where it hasn't the form, or has no room.
+#[tactic(auto, using(crate::proofs::Digits::behind_is, crate::proofs::Digits::behind_not), unfolding(crate::specs::Lines::said))]
+fn says<const N: usize, const M: usize>(text: &[u8]) -> Option<(Said<N, M>, &[u8])>
+    ensures value { option_map (λ r. (says_of r.0, r.1.now)) result ≡ said N M text.now }
+    ensures behind { IfSome result (λ r. length r.1.now ≤ length text.now) }
+{
+    let (numbers, rest) = numbers(text);
+    let (bytes, rest) = tail(rest);
+    let after = rest.strip_prefix(b"\n")?;
+    Some((Said { numbers, bytes }, after))
+}
+
+// A line: its letter, and what it says, if it has the form.
+#[derive(Drop)]
+pub struct Line<const N: usize, const M: usize> {
+    pub letter: u8,
+    pub said: Option<Said<N, M>>,
+}
+
+// The lines of a list, with room for so many numbers and bytes. One that hasn't the form ends the list.
+#[derive(Drop)]
+pub struct Lines<'a, const N: usize, const M: usize> {
+    text: &'a [u8],
+    // so that a line, which `next` gives by value, has a size
+    ghost small: { (N < 2 ^ 32) × (M < 2 ^ 32) },
+}
+
+impl<'a, const N: usize, const M: usize> Lines<'a, N, M> {
+    pub fn new(text: &'a [u8]) -> Lines<'a, N, M>
+        requires { (N < 2 ^ 32) × (M < 2 ^ 32) }
+        ensures { result.text.now ≡ text.now }
+    {
+        Lines { text }
+    }
+}
+
+impl<'a, const N: usize, const M: usize> Iterator for Lines<'a, N, M> {
+    type Item = Line<N, M>;
+
+    ghost next_gives = { λ s r t. (option_map line_of r, t.text.now) ≡ line N M s.text.now };
+
+    ghost remaining = { λ s. at_most (length s.text.now) };
+
+    #[tactic(auto, unfolding(crate::specs::Lines::line))]
+    fn next(&mut self) -> Option<Line<N, M>> {
+        let (letter, text) = self.text.split_first()?;
+        let letter = *letter;
+        match says(text) {
+            Some((said, rest)) => {
+                self.text = rest;
+                Some(Line {
+                    letter,
+                    said: Some(said),
+                })
+            }
+            None => {
+                self.text = &[];
+                Some(Line { letter, said: None })
+            }
+        }
     }
 }
