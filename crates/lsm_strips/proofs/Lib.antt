@@ -1,2 +1,5 @@
+pub mod Pairs
+pub mod Turning
+pub mod Walking
 pub mod Judging
 pub mod Asking

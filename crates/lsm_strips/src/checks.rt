@@ -1,159 +1,96 @@
 // The checks of plane and region after the coordinate's and the rectangle's, in their order.
-ghost use Rattle.std.specs.Prelude.{◌≡◌, true, ◌<◌};
-ghost use Rattle.lsm_format.specs.Answer.{accepted};
-ghost use Rattle.lsm_format.specs.Code.{rect_of, check_of, coordinate_of};
-ghost use Rattle.lsm_format.specs.Sizes.{picture_size};
-ghost use Rattle.lsm_format.specs.Picture.{scene_there, coordinate_there, plane_strips, row_strips, window_strips, region_strips, whole_rows};
+ghost use Rattle.std.specs.Prelude.{◌≡◌, true};
+ghost use Rattle.lsm_format.specs.Code.{answer_of, answer_by, rect_of, coordinate_of};
+ghost use Rattle.lsm_format.specs.Picture.{scene_there, coordinate_there, plane_strips, window_strips, region_strips, whole_rows};
 ghost use Rattle.lsm_description.specs.Code.{description_of};
-ghost use Rattle.lsm_strips.specs.Parts.{found_of, Lying};
+ghost use Rattle.lsm_strips.specs.Parts.{strips_of, Lying};
 
-use crate::Found;
-use crate::pages::{channel_strips, past_test, whole_rows};
-use crate::strips::{strips_in_turn, strips_inside, strips_reach};
+use crate::strips::{strips_in_turn, strips_inside};
+use crate::walk::Cursor;
+use crate::{Asked, StripRun};
 use lsm_description::Description;
-use lsm_format::error::{Check, Refusal};
-use lsm_format::types::{Coordinate, Dims5, PixelRect, PlaneBytes, checked_coordinates};
+use lsm_format::error::Refusal;
+use lsm_format::types::{Coordinate, Dims5, PixelRect, checked_coordinates};
 
 // Whether the file has the scene.
-pub(crate) fn checked_scene(d: Description, scene: usize) -> Check
-    ensures { check_of result ≡ scene_there (description_of d) scene }
+#[tactic(auto, unfolding(lsm_format::specs::Picture::scene_there))]
+pub(crate) fn checked_scene(d: Description, scene: usize) -> Result<(), Refusal>
+    ensures { answer_of result ≡ scene_there (description_of d) scene }
 {
-    let layout = d.layout;
-    if layout.scenes <= scene {
-        return Check::Refused(Refusal::SceneOutOfRange {
+    if d.layout.scenes <= scene {
+        return Err(Refusal::SceneOutOfRange {
             scene,
-            count: layout.scenes,
+            count: d.layout.scenes,
         });
     }
-    Check::Accepted
+    Ok(())
 }
 
 // The scene, then t, c and z.
-pub(crate) fn checked_place(d: Description, co: Coordinate) -> Check
-    ensures { check_of result ≡ coordinate_there (description_of d) (coordinate_of co) }
+#[tactic(auto, unfolding(lsm_format::specs::Picture::coordinate_there, lsm_format::specs::Answer::bind))]
+pub(crate) fn checked_place(d: Description, co: Coordinate) -> Result<(), Refusal>
+    ensures { answer_of result ≡ coordinate_there (description_of d) (coordinate_of co) }
 {
-    let dims = d.dims;
-    match checked_scene(d, co.scene) {
-        Check::Accepted => checked_coordinates(dims, co.scene, co.t, co.c, co.z),
-        Check::Refused(missing) => Check::Refused(missing),
-    }
+    checked_scene(d, co.scene)?;
+    checked_coordinates(d.dims, co)
 }
 
-// The strips of a picture whose size is known and not above the limit.
-fn sized_strips(d: Description, table: &[usize], len: usize, co: Coordinate, size: usize) -> Found
-    requires c_bound { co.c < (description_of d).dims.c }
-    requires d_value { picture_size (description_of d).dims.x (description_of d).dims.y (description_of d).kind ≡ accepted size }
-    ensures { found_of result ≡ plane_strips (description_of d) table.now len (coordinate_of co) }
-{
-    match channel_strips(d, table.len(), co) {
-        Found::Strips(s) => match strips_in_turn(table, s.first, s.count, len, size) {
-            Check::Accepted => Found::Strips(s),
-            Check::Refused(r) => Found::Refused(r),
-        },
-        Found::Refused(r) => Found::Refused(r),
+impl Asked<'_> {
+    // Plane's checks after the coordinate: size, page, strips.
+    #[tactic(auto, unfolding(lsm_format::specs::Picture::plane_strips, lsm_format::specs::Answer::bind), using(lsm_format::proofs::Picture::channel_room, crate::proofs::Pairs::turn_at))]
+    pub(crate) fn plane_strips(self) -> Result<StripRun, Refusal>
+        ensures { answer_by strips_of result ≡ plane_strips (description_of self.entry.d) self.entry.table.now self.entry.len (coordinate_of self.entry.co) }
+    {
+        let size = self.d.dims.checked_plane_bytes(self.d.dtype)?;
+        let run = self.channel_strips()?;
+        strips_in_turn(run.of(self.table), self.len, size)?;
+        Ok(run)
     }
-}
 
-// Plane's checks after the coordinate: size, page, strips.
-pub(crate) fn plane_strips(d: Description, table: &[usize], len: usize, co: Coordinate) -> Found
-    requires { co.c < (description_of d).dims.c }
-    ensures { found_of result ≡ plane_strips (description_of d) table.now len (coordinate_of co) }
-{
-    let dims = d.dims;
-    let dtype = d.dtype;
-    match dims.checked_plane_bytes(dtype) {
-        PlaneBytes::Bytes(size) => sized_strips(d, table, len, co, size),
-        PlaneBytes::Refused(oversized) => Found::Refused(oversized),
-    }
-}
-
-// The strips of a rectangle where all pages' strips hold whole rows: they lie in the file, and the rectangle's last sample in them. A page
-// past those of the whole-row test can be asked for, and may lack it; what the joined strips hold need not fit 64 bits.
-fn row_strips(d: Description, table: &[usize], len: usize, co: Coordinate, rect: PixelRect) -> Found
-    requires c_bound { co.c < (description_of d).dims.c }
-    requires lying { Lying (description_of d) (rect_of rect) }
-    requires table_value { whole_rows (description_of d) table.now ≡ true }
-    ensures { found_of result ≡ row_strips (description_of d) table.now len (coordinate_of co) (rect_of rect) }
-{
-    let dims = d.dims;
-    let dtype = d.dtype;
-    match channel_strips(d, table.len(), co) {
-        Found::Strips(s) => {
-            let size = dtype.size_bytes();
-            let last = rect.y + rect.h - 1;
-            let part = (rect.x + rect.w) * size;
-            if !strips_inside(table, s.first, s.count, len) {
-                return Found::Refused(Refusal::Decode);
-            }
-            if strips_reach(table, s.first, s.count, dims.x * size, last, part) {
-                Found::Strips(s)
-            } else {
-                Found::Refused(Refusal::Decode)
-            }
+    // The strips of a rectangle where all pages' strips hold whole rows: the rectangle's own size fits, they lie in the file, and the
+    // rectangle's last byte in them. A page past those of the whole-row test can be asked for, and may lack it; what the joined strips hold
+    // need not fit 64 bits.
+    #[tactic(auto, unfolding(lsm_format::specs::Picture::window_strips, lsm_format::specs::Picture::row_strips, lsm_format::specs::Answer::bind), using(lsm_format::proofs::Picture::channel_room, crate::proofs::Pairs::inside_at, crate::proofs::Pairs::total_at))]
+    fn window_strips(self, rect: PixelRect) -> Result<StripRun, Refusal>
+        requires lying { Lying (description_of self.d) (rect_of rect) }
+        requires whole { whole_rows (description_of self.d) self.table.now ≡ true }
+        ensures { answer_by strips_of result ≡ window_strips (description_of self.entry.d) self.entry.table.now self.entry.len (coordinate_of self.entry.co) (rect_of rect) }
+    {
+        let part = Dims5 {
+            t: 1,
+            c: 1,
+            z: 1,
+            y: rect.h,
+            x: rect.w,
+        };
+        part.checked_plane_bytes(self.d.dtype)?;
+        let run = self.channel_strips()?;
+        let strips = run.of(self.table);
+        let size = self.d.dtype.size_bytes();
+        let top = Cursor {
+            strips,
+            into: (rect.x + rect.w) * size - 1,
+        };
+        let last = top.seek(rect.y + rect.h - 1, self.d.dims.x * size);
+        if strips_inside(strips, self.len) && last.is_some() {
+            Ok(run)
+        } else {
+            Err(Refusal::Decode)
         }
-        Found::Refused(r) => Found::Refused(r),
     }
-}
 
-// The same after the rectangle's own size.
-fn window_strips(
-    d: Description,
-    table: &[usize],
-    len: usize,
-    co: Coordinate,
-    rect: PixelRect,
-) -> Found
-    requires c_bound { co.c < (description_of d).dims.c }
-    requires lying { Lying (description_of d) (rect_of rect) }
-    requires table_value { whole_rows (description_of d) table.now ≡ true }
-    ensures { found_of result ≡ window_strips (description_of d) table.now len (coordinate_of co) (rect_of rect) }
-{
-    let dtype = d.dtype;
-    let part = Dims5 {
-        t: 1,
-        c: 1,
-        z: 1,
-        y: rect.h,
-        x: rect.w,
-    };
-    match part.checked_plane_bytes(dtype) {
-        PlaneBytes::Bytes(_) => row_strips(d, table, len, co, rect),
-        PlaneBytes::Refused(r) => Found::Refused(r),
-    }
-}
-
-// Region's checks after the rectangle. Plane's checks decide for a picture that isn't oversized, whatever the strips of other pages hold,
-// unless its page is past those of the whole-row test; so the test over all pages is made only for an oversized picture or such a page.
-pub(crate) fn region_strips(
-    d: Description,
-    table: &[usize],
-    len: usize,
-    co: Coordinate,
-    rect: PixelRect,
-) -> Found
-    requires c_bound { co.c < (description_of d).dims.c }
-    requires lying { Lying (description_of d) (rect_of rect) }
-    ensures { found_of result ≡ region_strips (description_of d) table.now len (coordinate_of co) (rect_of rect) }
-{
-    let dims = d.dims;
-    let dtype = d.dtype;
-    match dims.checked_plane_bytes(dtype) {
-        PlaneBytes::Bytes(size) => {
-            if !past_test(d, co) {
-                return sized_strips(d, table, len, co, size);
-            }
-            if whole_rows(d, table) {
-                window_strips(d, table, len, co, rect)
-            } else {
-                sized_strips(d, table, len, co, size)
-            }
+    // Region's checks after the rectangle. Plane's checks decide for a picture that isn't oversized, whatever the strips of other pages
+    // hold, unless its page is past those of the whole-row test; so the test over all pages is made only for an oversized picture or such a
+    // page.
+    #[tactic(auto, using(crate::proofs::Judging::region_whole))]
+    pub(crate) fn region_strips(self, rect: PixelRect) -> Result<StripRun, Refusal>
+        requires { Lying (description_of self.d) (rect_of rect) }
+        ensures { answer_by strips_of result ≡ region_strips (description_of self.entry.d) self.entry.table.now self.entry.len (coordinate_of self.entry.co) (rect_of rect) }
+    {
+        let small = self.d.dims.checked_plane_bytes(self.d.dtype).is_ok();
+        if small && !self.past_test() || !self.whole_rows() {
+            return self.plane_strips();
         }
-        PlaneBytes::Refused(r) => {
-            if whole_rows(d, table) {
-                window_strips(d, table, len, co, rect)
-            } else {
-                Found::Refused(r)
-            }
-        }
+        self.window_strips(rect)
     }
 }

@@ -4,18 +4,18 @@
 mod checks;
 mod pages;
 mod strips;
+pub mod walk;
 
-ghost use Rattle.std.specs.Prelude.{◌≡◌, ◌<◌};
-ghost use Rattle.lsm_format.specs.Answer.{accepted};
-ghost use Rattle.lsm_format.specs.Code.{rect_of, coordinate_of};
-ghost use Rattle.lsm_format.specs.Rectangle.{is_empty, rectangle};
-ghost use Rattle.lsm_format.specs.Picture.{plane_from, filled_strips, region_from};
+ghost use Rattle.std.specs.Prelude.{◌≡◌, ◌+◌, ◌*◌, ◌<◌, ◌≤◌, length};
+ghost use Rattle.lsm_format.specs.Code.{answer_by, rect_of, coordinate_of};
+ghost use Rattle.lsm_format.specs.Picture.{plane_from, region_from};
 ghost use Rattle.lsm_description.specs.Code.{description_of};
-ghost use Rattle.lsm_strips.specs.Parts.{found_of};
+ghost use Rattle.lsm_strips.specs.Parts.{strips_of};
+ghost use Rattle.lsm_strips.specs.Strips.{strips_at};
 
-use crate::checks::{checked_place, checked_scene, plane_strips, region_strips};
+use crate::checks::{checked_place, checked_scene};
 use lsm_description::Description;
-use lsm_format::error::{Check, Refusal};
+use lsm_format::error::Refusal;
 use lsm_format::types::{Coordinate, PixelRect, checked_region};
 
 // Strips that follow one another in the table: the first, and how many they are.
@@ -25,57 +25,61 @@ pub struct StripRun {
     pub count: usize,
 }
 
-// The strips that a picture is read from, or why there are none.
-#[derive(Clone, Copy)]
-pub enum Found {
-    Strips(StripRun),
-    Refused(Refusal),
-}
-
-// Plane's: the coordinate, then size, page, strips.
-pub fn plane_from(d: Description, table: &[usize], len: usize, co: Coordinate) -> Found
-    ensures { found_of result ≡ plane_from (description_of d) table.now len (coordinate_of co) }
-{
-    match checked_place(d, co) {
-        Check::Accepted => plane_strips(d, table, len, co),
-        Check::Refused(place) => Found::Refused(place),
+impl StripRun {
+    // The strips themselves: where each starts, and its bytes.
+    #[tactic(auto, using(crate::proofs::Pairs::run_at))]
+    pub fn of(self, table: &[usize]) -> &[[usize; 2]]
+        requires { 2 * (self.first + self.count) ≤ length table.now }
+        ensures { result.now ≡ strips_at table.now self.first self.count }
+    {
+        let words = &table[2 * self.first..2 * (self.first + self.count)];
+        let (strips, _) = words.as_chunks();
+        strips
     }
 }
 
-// Those of a rectangle that lies in the picture. An empty one is read from none, and asks nothing of them.
-fn filled_strips(
+// A picture that is asked for: a description, its strip table, the bytes of a file, and which picture. The description has its channel.
+#[derive(Clone, Copy)]
+struct Asked<'a> {
+    d: Description,
+    table: &'a [usize],
+    len: usize,
+    co: Coordinate,
+    ghost channel: { co.c < d.dims.c },
+}
+
+// Plane's: the coordinate, then size, page, strips.
+#[tactic(auto, unfolding(lsm_format::specs::Picture::plane_from, lsm_format::specs::Answer::bind), using(lsm_format::proofs::Picture::coordinate_channel))]
+pub fn plane_from(
     d: Description,
     table: &[usize],
     len: usize,
     co: Coordinate,
-    rect: PixelRect,
-) -> Found
-    requires c_bound { co.c < (description_of d).dims.c }
-    requires rect_value { rectangle (description_of d).dims (rect_of rect) ≡ accepted tt }
-    ensures { found_of result ≡ filled_strips (is_empty (rect_of rect)) (description_of d) table.now len (coordinate_of co) (rect_of rect) }
+) -> Result<StripRun, Refusal>
+    ensures { answer_by strips_of result ≡ plane_from (description_of d) table.now len (coordinate_of co) }
 {
-    if rect.is_empty() {
-        return Found::Strips(StripRun { first: 0, count: 0 });
-    }
-    region_strips(d, table, len, co, rect)
+    checked_place(d, co)?;
+    let asked = Asked { d, table, len, co };
+    asked.plane_strips()
 }
 
-// Region's: the scene, the coordinate and the rectangle, whether it is empty, then the strips.
+// Region's: the scene, the coordinate and the rectangle, whether it is empty, then the strips. An empty rectangle is read from none, and
+// asks nothing of them.
+#[tactic(auto, using(crate::proofs::Asking::region_outside, crate::proofs::Asking::region_off, crate::proofs::Asking::region_empty, crate::proofs::Asking::region_filled))]
 pub fn region_from(
     d: Description,
     table: &[usize],
     len: usize,
     co: Coordinate,
     rect: PixelRect,
-) -> Found
-    ensures { found_of result ≡ region_from (description_of d) table.now len (coordinate_of co) (rect_of rect) }
+) -> Result<StripRun, Refusal>
+    ensures { answer_by strips_of result ≡ region_from (description_of d) table.now len (coordinate_of co) (rect_of rect) }
 {
-    let dims = d.dims;
-    match checked_scene(d, co.scene) {
-        Check::Accepted => match checked_region(dims, co.scene, co.t, co.c, co.z, rect) {
-            Check::Accepted => filled_strips(d, table, len, co, rect),
-            Check::Refused(outside) => Found::Refused(outside),
-        },
-        Check::Refused(missing) => Found::Refused(missing),
+    checked_scene(d, co.scene)?;
+    checked_region(d.dims, co, rect)?;
+    if rect.is_empty() {
+        return Ok(StripRun { first: 0, count: 0 });
     }
+    let asked = Asked { d, table, len, co };
+    asked.region_strips(rect)
 }

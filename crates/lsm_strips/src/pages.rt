@@ -1,140 +1,108 @@
 // Where a picture's strips stand in the table, and whether all pages' strips hold whole rows. A handed-in description can name any
 // page, so every product is tested before it is used.
 ghost use Rattle.std.specs.Prelude.{◌≡◌, true, ◌+◌, ◌*◌, ◌≤◌, ◌<◌, length};
-ghost use Rattle.lsm_format.specs.Code.{coordinate_of};
-ghost use Rattle.lsm_format.specs.Picture.{strips_per_page, page_in, channel_strips, row_bytes, whole_channels, whole_page, whole_pages, whole_rows};
+ghost use Rattle.lsm_format.specs.Code.{answer_by, coordinate_of};
+ghost use Rattle.lsm_format.specs.Picture.{strips_per_page, channel_strips, row_bytes, whole_channels, whole_page, whole_rows};
 ghost use Rattle.lsm_description.specs.Code.{description_of};
-ghost use Rattle.lsm_strips.specs.Parts.{found_of, past_test};
+ghost use Rattle.lsm_strips.specs.Parts.{strips_of, past_test, start_of};
 
 use crate::strips::strips_of_rows;
-use crate::{Found, StripRun};
+use crate::{Asked, StripRun};
 use lsm_description::Description;
-use lsm_format::checked::{Word, checked_mul};
+use lsm_format::checked::checked_mul;
 use lsm_format::error::Refusal;
 use lsm_format::types::Coordinate;
-use lsm_positions::{ExpectedPages, PageIndex};
 
-// Whether a table of `words` words has this page whole, where a page has `strips` strips.
-fn has_page(strips: usize, words: usize, page: usize) -> bool
-    ensures { result ≡ page_in strips words page }
+// The first strip of a page that a table of `words` words has whole.
+#[tactic(auto, using(crate::proofs::Judging::start_lost, crate::proofs::Judging::start_empty, crate::proofs::Judging::start_past, crate::proofs::Judging::start_there))]
+fn page_start(d: Description, words: usize, page: usize) -> Option<usize>
+    ensures { result ≡ start_of (description_of d) words page }
 {
-    if strips == 0 {
-        return false;
+    let strips = checked_mul(d.dims.c, d.strips_per_channel)?;
+    if strips == 0 || words / 2 / strips <= page {
+        return None;
     }
-    page < words / 2 / strips
+    Some(page * strips)
 }
 
-// The strips of a channel of the page that a focal plane has.
-pub(crate) fn channel_strips(d: Description, words: usize, co: Coordinate) -> Found
-    requires { co.c < (description_of d).dims.c }
-    ensures { found_of result ≡ channel_strips (description_of d) words (coordinate_of co) }
-{
-    let layout = d.layout;
-    let dims = d.dims;
-    let n = d.strips_per_channel;
-    let c = co.c;
-    let outside = Refusal::OutOfRange {
-        scene: co.scene,
-        t: co.t,
-        c,
-        z: co.z,
-    };
-    let PageIndex::Page(page) = layout.page_index(co.scene, co.t, co.z) else {
-        return Found::Refused(outside);
-    };
-    let Word::Value(strips) = checked_mul(dims.c, n) else {
-        return Found::Refused(outside);
-    };
-    if has_page(strips, words, page) {
-        Found::Strips(StripRun {
-            first: page * strips + c * n,
-            count: n,
+impl Asked<'_> {
+    // The strips of the channel on the page that the focal plane has.
+    #[tactic(auto, using(crate::proofs::Judging::channel_none, crate::proofs::Judging::channel_gone, crate::proofs::Judging::channel_found, crate::proofs::Judging::start_tells, crate::proofs::Judging::channel_fits))]
+    pub(crate) fn channel_strips(self) -> Result<StripRun, Refusal>
+        ensures { answer_by strips_of result ≡ channel_strips (description_of self.entry.d) (length self.entry.table.now) (coordinate_of self.entry.co) }
+    {
+        let Coordinate { scene, t, c, z } = self.co;
+        let outside = Refusal::OutOfRange { scene, t, c, z };
+        let page = self.d.layout.page_index(self.co).ok_or(outside)?;
+        let start = page_start(self.d, self.table.len(), page).ok_or(outside)?;
+        let count = self.d.strips_per_channel;
+        Ok(StripRun {
+            first: start + c * count,
+            count,
         })
-    } else {
-        Found::Refused(outside)
     }
-}
 
-// Whether the page that a focal plane has is past those of the whole-row test. No page of an opened file is.
-pub(crate) fn past_test(d: Description, co: Coordinate) -> bool
-    ensures { result ≡ past_test (description_of d) (coordinate_of co) }
-{
-    let layout = d.layout;
-    let PageIndex::Page(page) = layout.page_index(co.scene, co.t, co.z) else {
-        return false;
-    };
-    match layout.expected_pages() {
-        ExpectedPages::Pages(pages) => pages <= page,
-        ExpectedPages::Refused(_) => false,
+    // Whether the page that the focal plane has is past those of the whole-row test. No page of an opened file is.
+    #[tactic(auto, using(crate::proofs::Judging::past_nowhere, crate::proofs::Judging::past_there))]
+    pub(crate) fn past_test(self) -> bool
+        ensures { result ≡ past_test (description_of self.entry.d) (coordinate_of self.entry.co) }
+    {
+        let layout = self.d.layout;
+        let Some(page) = layout.page_index(self.co) else {
+            return false;
+        };
+        let Ok(pages) = layout.expected_pages() else {
+            return false;
+        };
+        pages <= page
     }
-}
 
-// Whether each channel of a page that the table has holds whole rows. The page's first strip is `start`.
-fn whole_channels(d: Description, table: &[usize], page: usize, start: usize, row: usize) -> bool
-    requires start_value { (start ≡ page * strips_per_page (description_of d)) × (row ≡ row_bytes (description_of d)) × (0 < row) }
-    requires d_in_bounds { 2 * (start + strips_per_page (description_of d)) ≤ length table.now }
-    ensures { result ≡ whole_channels (description_of d) table.now page (description_of d).dims.c }
-{
-    let dims = d.dims;
-    let n = d.strips_per_channel;
-    let channels = dims.c;
-    let height = dims.y;
-    let mut c = 0;
-    while c < channels {
-        if !strips_of_rows(table, start + c * n, n, row, height) {
+    // Whether each channel of a page that the table has holds whole rows. The page's first strip is `start`.
+    #[tactic(auto, using(crate::proofs::Judging::channel_fits, crate::proofs::Judging::channels_whole))]
+    fn whole_channels(self, page: usize, start: usize, row: usize) -> bool
+        requires start { (start ≡ page * strips_per_page (description_of self.d)) × (row ≡ row_bytes (description_of self.d)) × (0 < row) }
+        requires there { 2 * (start + strips_per_page (description_of self.d)) ≤ length self.table.now }
+        ensures { result ≡ whole_channels (description_of self.entry.d) self.entry.table.now page (description_of self.entry.d).dims.c }
+    {
+        let count = self.d.strips_per_channel;
+        for c in 0..self.d.dims.c {
+            let run = StripRun {
+                first: start + c * count,
+                count,
+            };
+            if !strips_of_rows(run.of(self.table), row, self.d.dims.y) {
+                return false;
+            }
+        }
+        true
+    }
+
+    // Whether the table has a page, and each of its channels holds whole rows.
+    #[tactic(auto, using(crate::proofs::Judging::start_tells, crate::proofs::Judging::whole_lost))]
+    fn whole_page(self, page: usize, row: usize) -> bool
+        requires { (row ≡ row_bytes (description_of self.d)) × (0 < row) }
+        ensures { result ≡ whole_page (description_of self.entry.d) self.entry.table.now page }
+    {
+        let Some(start) = page_start(self.d, self.table.len(), page) else {
+            return false;
+        };
+        self.whole_channels(page, start, row)
+    }
+
+    // Whether every page's strips hold whole rows. The first that doesn't ends the search.
+    #[tactic(auto, using(crate::proofs::Judging::whole_wide, crate::proofs::Judging::whole_empty))]
+    pub(crate) fn whole_rows(self) -> bool
+        ensures { result ≡ whole_rows (description_of self.entry.d) self.entry.table.now }
+    {
+        let Some(row) = checked_mul(self.d.dims.x, self.d.dtype.size_bytes()) else {
+            return false;
+        };
+        if row == 0 {
             return false;
         }
-        c += 1;
-    }
-    true
-}
-
-// Whether the table has a page, and each of its channels holds whole rows.
-fn whole_page(d: Description, table: &[usize], page: usize, row: usize) -> bool
-    requires { (row ≡ row_bytes (description_of d)) × (0 < row) }
-    ensures { result ≡ whole_page (description_of d) table.now page }
-{
-    let dims = d.dims;
-    let Word::Value(strips) = checked_mul(dims.c, d.strips_per_channel) else {
-        return false;
-    };
-    if has_page(strips, table.len(), page) {
-        whole_channels(d, table, page, page * strips, row)
-    } else {
-        false
-    }
-}
-
-// Whether the first `pages` pages are such. The first that isn't ends the search.
-fn whole_pages(d: Description, table: &[usize], pages: usize, row: usize) -> bool
-    requires { (row ≡ row_bytes (description_of d)) × (0 < row) }
-    ensures { result ≡ whole_pages (description_of d) table.now pages }
-{
-    let mut page = 0;
-    while page < pages {
-        if !whole_page(d, table, page, row) {
+        let Ok(pages) = self.d.layout.expected_pages() else {
             return false;
-        }
-        page += 1;
-    }
-    true
-}
-
-// Whether every page's strips hold whole rows.
-pub(crate) fn whole_rows(d: Description, table: &[usize]) -> bool
-    ensures { result ≡ whole_rows (description_of d) table.now }
-{
-    let dims = d.dims;
-    let layout = d.layout;
-    let dtype = d.dtype;
-    let Word::Value(row) = checked_mul(dims.x, dtype.size_bytes()) else {
-        return false;
-    };
-    if row == 0 {
-        return false;
-    }
-    match layout.expected_pages() {
-        ExpectedPages::Pages(pages) => whole_pages(d, table, pages, row),
-        ExpectedPages::Refused(_) => false,
+        };
+        (0..pages).all(|page| self.whole_page(page, row))
     }
 }

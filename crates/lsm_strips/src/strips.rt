@@ -1,137 +1,59 @@
-// What is asked of a channel's strips. Strip i has the table's words 2 * i, where it starts, and 2 * i + 1, its bytes.
-ghost use Rattle.std.specs.Prelude.{◌≡◌, ◌+◌, ◌*◌, ◌≤◌, ◌<◌, leb, length};
-ghost use Rattle.lsm_format.specs.Answer.{decode};
-ghost use Rattle.lsm_format.specs.Code.{check_of};
-ghost use Rattle.lsm_format.specs.Picture.{total, inside, in_turn, whole_rows_of};
+// What is asked of a channel's strips. Of each there is where it starts, and its bytes.
+ghost use Rattle.std.specs.Prelude.{◌≡◌, ◌+◌, ◌<◌, leb};
+ghost use Rattle.lsm_format.specs.Code.{answer_of};
+ghost use Rattle.lsm_strips.specs.Strips.{all_lie, turn_in, whole_in};
 
-use lsm_format::error::{Check, Refusal};
+use lsm_format::checked::checked_add;
+use lsm_format::error::Refusal;
 
-// Whether a strip lies in a file of `len` bytes. Its end can overflow, so it isn't computed.
+// Whether a strip lies in a file of `len` bytes. One whose end overflows doesn't.
+#[tactic(auto, unfolding(lsm_format::specs::Words::word))]
 fn lies_within(offset: usize, count: usize, len: usize) -> bool
     ensures { result ≡ leb (offset + count) len }
 {
-    if len < count {
-        return false;
-    }
-    offset <= len - count
+    checked_add(offset, count).is_some_and(|end| end <= len)
 }
 
 // Whether each of the strips lies in a file of `len` bytes.
-pub(crate) fn strips_inside(table: &[usize], first: usize, n: usize, len: usize) -> bool
-    requires { 2 * (first + n) ≤ length table.now }
-    ensures { result ≡ inside table.now len first n }
+pub(crate) fn strips_inside(strips: &[[usize; 2]], len: usize) -> bool
+    ensures { result ≡ all_lie len strips.now }
 {
-    let mut i = first;
-    let mut left = n;
-    while 0 < left {
-        if !lies_within(table[2 * i], table[2 * i + 1], len) {
-            return false;
-        }
-        i += 1;
-        left -= 1;
-    }
-    true
+    strips
+        .iter()
+        .all(|&[offset, count]| lies_within(offset, count, len))
 }
 
 // The strips in turn: each lies in the file, and has no more bytes than are still to come; together they have the picture's bytes. What is
 // still to come is counted down, since the strips' sum can overflow.
-pub(crate) fn strips_in_turn(
-    table: &[usize],
-    first: usize,
-    n: usize,
-    len: usize,
-    size: usize,
-) -> Check
-    requires { 2 * (first + n) ≤ length table.now }
-    ensures { check_of result ≡ in_turn decode decode table.now len first n size }
+#[tactic(auto, using(crate::proofs::Turning::turn_end, crate::proofs::Turning::turn_outside, crate::proofs::Turning::turn_over, crate::proofs::Turning::turn_next))]
+pub(crate) fn strips_in_turn(strips: &[[usize; 2]], len: usize, size: usize) -> Result<(), Refusal>
+    ensures { answer_of result ≡ turn_in len strips.now size }
 {
-    let mut i = first;
-    let mut left = n;
-    let mut bytes = size;
-    while 0 < left {
-        let count = table[2 * i + 1];
-        if !lies_within(table[2 * i], count, len) {
-            return Check::Refused(Refusal::Decode); // outside the file
+    let mut left = size;
+    for &[offset, count] in strips {
+        if !lies_within(offset, count, len) {
+            return Err(Refusal::Decode); // outside the file
         }
-        if bytes < count {
-            return Check::Refused(Refusal::Decode); // too many bytes
-        }
-        bytes -= count;
-        i += 1;
-        left -= 1;
+        left = left.checked_sub(count).ok_or(Refusal::Decode)?; // too many bytes
     }
-    if 0 < bytes {
-        return Check::Refused(Refusal::Decode); // too few
+    if 0 < left {
+        return Err(Refusal::Decode); // too few
     }
-    Check::Accepted
+    Ok(())
 }
 
 // Whether each of the strips holds whole rows, and all of them together the picture's. The rows still to come are counted down.
-pub(crate) fn strips_of_rows(
-    table: &[usize],
-    first: usize,
-    n: usize,
-    row: usize,
-    height: usize,
-) -> bool
-    requires { (2 * (first + n) ≤ length table.now) × (0 < row) }
-    ensures { result ≡ whole_rows_of row table.now first n height }
+#[tactic(auto, using(crate::proofs::Turning::rows_end, crate::proofs::Turning::rows_odd, crate::proofs::Turning::rows_over, crate::proofs::Turning::rows_next))]
+pub(crate) fn strips_of_rows(strips: &[[usize; 2]], row: usize, height: usize) -> bool
+    requires { 0 < row }
+    ensures { result ≡ whole_in row strips.now height }
 {
-    let mut i = first;
-    let mut left = n;
-    let mut rest = height;
-    while 0 < left {
-        let count = table[2 * i + 1];
-        if count % row != 0 {
+    let mut left = height;
+    for &[_, count] in strips {
+        if count % row != 0 || left < count / row {
             return false;
         }
-        let rows = count / row;
-        if rest < rows {
-            return false;
-        }
-        rest -= rows;
-        i += 1;
-        left -= 1;
+        left -= count / row;
     }
-    rest == 0
-}
-
-// Whether the strips together have `rows` rows of `row` bytes, and `part` bytes more. What is still to come of these is counted down: the
-// rows that begin in a strip are taken off, and the last of them reaches into the next.
-pub(crate) fn strips_reach(
-    table: &[usize],
-    first: usize,
-    n: usize,
-    row: usize,
-    rows: usize,
-    part: usize,
-) -> bool
-    requires { (2 * (first + n) ≤ length table.now) × (0 < row) }
-    ensures { result ≡ leb (rows * row + part) (total table.now first n) }
-{
-    let mut i = first;
-    let mut left = n;
-    let mut ahead = rows;
-    let mut rest = part;
-    while 0 < left {
-        let count = table[2 * i + 1];
-        if count <= rest {
-            rest -= count;
-            i += 1;
-            left -= 1;
-        } else {
-            let here = (count - rest) / row;
-            if ahead <= here {
-                return true;
-            }
-            rest = row - (count - rest) % row;
-            ahead -= here + 1;
-            i += 1;
-            left -= 1;
-        }
-    }
-    if 0 < ahead {
-        return false;
-    }
-    rest == 0
+    left == 0
 }

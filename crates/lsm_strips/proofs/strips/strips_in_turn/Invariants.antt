@@ -1,11 +1,8 @@
-use Prim.Native.Nat.{◌+◌}
 use mathlib.Core.Path.{◌≡◌}
-use Rattle.lsm_format.specs.Answer.{decode}
-use Rattle.lsm_format.specs.Picture.{in_turn}
+use lib.ListN.{drop}
+use Rattle.lsm_strips.specs.Strips.{turn_in}
 use Rattle.lsm_strips.proofs.strips.strips_in_turn.Given as goal
 
-abbrev pub invariant-loop-left : goal.invariant-loop-left
-invariant-loop-left l = (l.i + l.left ≡ l.first + l.n) × (in_turn decode decode l.table l.len l.first l.n l.size ≡ in_turn decode decode l.table l.len l.i l.left l.bytes)
-
-abbrev pub decreases-loop-left : goal.decreases-loop-left
-decreases-loop-left l = l.left
+-- the answer for all strips and all bytes is the answer for those that are left
+abbrev pub invariant-loop-offset : goal.invariant-loop-offset
+invariant-loop-offset l = turn_in l.len l.strips l.size ≡ turn_in l.len (drop l.offset-index l.strips) l.left

@@ -1,10 +1,8 @@
-use Prim.Native.Nat.{◌+◌}
 use mathlib.Core.Path.{◌≡◌}
-use Rattle.lsm_format.specs.Picture.{whole_rows_of}
+use lib.ListN.{drop}
+use Rattle.lsm_strips.specs.Strips.{whole_in}
 use Rattle.lsm_strips.proofs.strips.strips_of_rows.Given as goal
 
-abbrev pub invariant-loop-left : goal.invariant-loop-left
-invariant-loop-left l = (l.i + l.left ≡ l.first + l.n) × (whole_rows_of l.row l.table l.first l.n l.height ≡ whole_rows_of l.row l.table l.i l.left l.rest)
-
-abbrev pub decreases-loop-left : goal.decreases-loop-left
-decreases-loop-left l = l.left
+-- the answer for all strips and all rows is the answer for those that are left
+abbrev pub invariant-loop-count : goal.invariant-loop-count
+invariant-loop-count l = whole_in l.row l.strips l.height ≡ whole_in l.row (drop l.count-index l.strips) l.left
