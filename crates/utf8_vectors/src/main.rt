@@ -3,85 +3,55 @@
 // that are wrong on purpose.
 #![tactic(auto)]
 
-ghost use Rattle.std.specs.Prelude.{◌≡◌, true, ◌<◌, ◌≤◌, length};
+ghost use Rattle.std.specs.Prelude.{◌≡◌, true, ◌<◌, ◌≤◌, length, IfSome};
 ghost use Rattle.lsm_format.specs.Utf8.{lossy};
 
 use buffers::{read_full, zeros};
 use std::io;
-use vectors::numbers::holds;
-use vectors::text::bytes_at;
+use utf8::decode_lossy;
+use vectors::report::Tally;
+use vectors::text::bytes;
 
 // Whether the bytes decode to the text, into memory that has room for it.
+#[tactic(auto, unfolding(lsm_format::specs::Lent::lend, lsm_format::specs::Answer::bind))]
 fn agrees(bytes: &[u8], text: &[u8], out: &mut [u8]) -> bool
     ensures { result ≡ true → lossy bytes.now ≡ text.now }
 {
-    match utf8::decode_lossy(bytes, out) {
-        Ok(n) => check::same(&out[..n], text),
+    match decode_lossy(bytes, out) {
+        Ok(n) => &out[..n] == text,
         Err(_) => false,
     }
 }
 
-// A line: whether it agrees, and where the next begins.
-#[derive(Clone, Copy)]
-struct Line {
-    agrees: bool,
-    next: usize,
-}
-
-// The line at a place. One that is not of the form counts as one that differs, and ends the list.
-fn line_at(text: &[u8], at: usize) -> Line
-    requires { at < length text.now }
-    ensures { (at < result.next) × (result.next ≤ length text.now) }
+// Whether the line that a list begins with agrees, and the list behind it. None where it hasn't the form.
+fn line(list: &[u8]) -> Option<(bool, &[u8])>
+    ensures { IfSome result (λ r. length r.1.now < length list.now) }
 {
-    let mut bytes = [0u8; 32];
-    let mut expected = [0u8; 96];
+    let (encoded, rest) = bytes::<32>(list);
+    let (text, rest) = bytes::<96>(rest.strip_prefix(b" ")?);
+    let rest = rest.strip_prefix(b"\n")?;
     let mut out = [0u8; 96];
-    let broken = Line {
-        agrees: false,
-        next: text.len(),
-    };
-    let first = bytes_at(text, at, &mut bytes);
-    if !holds(text, first.next, b' ') {
-        return broken;
-    }
-    let second = bytes_at(text, first.next + 1, &mut expected);
-    if !holds(text, second.next, b'\n') {
-        return broken;
-    }
-    let n = first.count;
-    let m = second.count;
-    Line {
-        agrees: agrees(&bytes[..n], &expected[..m], &mut out[..m]),
-        next: second.next + 1,
-    }
+    let agrees = agrees(encoded.as_slice(), text.as_slice(), &mut out[..text.len()]);
+    Some((agrees, rest))
 }
 
-#[derive(Clone, Copy)]
-struct Tally {
-    vectors: usize,
-    differ: usize,
-}
-
-fn compare(text: &[u8]) -> Tally
-    ensures { (result.vectors ≤ length text.now) × (result.differ ≤ result.vectors) }
+// A line that hasn't the form counts as one that differs, and ends the list.
+fn compare(list: &[u8]) -> Tally
+    ensures { result.cases ≤ length list.now }
 {
-    let mut vectors: usize = 0;
-    let mut differ: usize = 0;
-    let mut at = 0;
-    while at < text.len() {
-        let l = line_at(text, at);
-        vectors += 1;
-        if !l.agrees {
-            differ += 1;
-        }
-        at = l.next;
+    let mut tally = Tally::default();
+    let mut rest = list;
+    while !rest.is_empty() {
+        let (agrees, after) = line(rest).unwrap_or((false, &[]));
+        tally.count(agrees);
+        rest = after;
     }
-    Tally { vectors, differ }
+    tally
 }
 
 fn main(rt: HostRuntime) -> io::Result<()> {
     let mut text = zeros::<131072>();
     let n = read_full(&mut rt.stdin(), &mut text)?;
     let t = compare(&text[..n]);
-    println!(rt; "{} vectors, {} differ", t.vectors, t.differ)
+    println!(rt; "{} vectors, {} differ", t.cases, t.differ)
 }

@@ -1,9 +1,9 @@
--- No more vectors than bytes passed were counted, and no more differences than vectors.
-use Rattle.std.proofs.Common.{◌-◌, ◌≤◌, length}
+-- No more lines than bytes passed were counted.
+use Rattle.std.proofs.Common.{◌+◌, ◌≤◌, length}
 use Rattle.utf8_vectors.proofs.compare.Given as goal
 
-abbrev pub invariant-loop-at : goal.invariant-loop-at
-invariant-loop-at l = (l.at ≤ length l.text) × (l.vectors ≤ l.at) × (l.differ ≤ l.vectors)
+abbrev pub invariant-loop-rest : goal.invariant-loop-rest
+invariant-loop-rest l = l.tally.cases + length l.rest ≤ length l.list
 
-abbrev pub decreases-loop-at : goal.decreases-loop-at
-decreases-loop-at l = length l.text - l.at
+abbrev pub decreases-loop-rest : goal.decreases-loop-rest
+decreases-loop-rest l = length l.rest
