@@ -7,19 +7,21 @@ use Rattle.std.specs.Int.{w16, w32, w64, byte_worth, sum_through, from_le_bytes,
 use Rattle.std.specs.Array.{IsFirstChunk}
 use Rattle.std.specs.Option.{option_copied}
 use Rattle.lsm_format.specs.Answer.{given, parse}
-use Rattle.lsm_format.proofs.Numbers.{part_past, part_there}
+use Rattle.lsm_format.proofs.Numbers.{part_there}
 use Rattle.lsm_format.specs.Numbers.{part_at, little, big, value_of, little_value}
 
--- what is left of a file
-rest_is : (f : List ℕ) (at : ℕ) → slice_range f at (length f) ≡ drop at f
-rest_is f at = take_all (length f - at) (drop at f) (omega (arith, length-drop at f))
-
--- the bytes of a part, from the first of what is left of the file
-pub chunk_part : (f rest : List ℕ) (at n : ℕ) (o : Option (Bor (List ℕ))) → at ≤ length f → rest ≡ slice_range f at (length f) →
-    MatchOption o (length rest < n) (λ y. IsFirstChunk rest y.now n) → given parse (option_copied o) ≡ part_at f at n
-chunk_part f rest at n None h is e = sym (part_past f at n (omega (arith, ap length (is ∙ rest_is f at), length-drop at f)))
-chunk_part f rest at n (Some y) h is e =
-    rw (e.same, is, rest_is f at) (sym (part_there f at n (omega (arith, e.enough, ap length (is ∙ rest_is f at), length-drop at f))))
+-- the first bytes of a part are the part
+pub chunk_part : (f : List ℕ) (at n : ℕ) (o : Option (Bor (List ℕ))) → at + n ≤ length f →
+    MatchOption o (length (slice_range f at (at + n)) < n) (λ y. IsFirstChunk (slice_range f at (at + n)) y.now n) → given parse (option_copied o) ≡ part_at f at n
+chunk_part f at n o h e =
+    let rest : slice_range f at (at + n) ≡ take n (drop at f) = ap (λ (k : ℕ). take k (drop at f)) (omega arith) in
+    let long : length (take n (drop at f)) ≡ n = length-take-le n (drop at f) (omega (arith, length-drop at f)) in
+    by o (rw rest at e) long
+  where
+    by : (o : Option (Bor (List ℕ))) → MatchOption o (length (take n (drop at f)) < n) (λ y. IsFirstChunk (take n (drop at f)) y.now n) → length (take n (drop at f)) ≡ n →
+        given parse (option_copied o) ≡ part_at f at n
+    by None e long = absurd (omega arith)
+    by (Some y) e long = rw (e.same, take_all n (take n (drop at f)) (omega arith)) (sym (part_there f at n h))
 
 -- a byte's worth at its place is a power of 256
 worth : (i b : ℕ) → byte_worth i b ≡ b * 256 ^ i
