@@ -1,16 +1,15 @@
 -- Laws of wide numbers: what a step on one limb does to the number of the limbs passed. Assumes nothing.
 use Prim.Native.Nat.{ℕ, zero, suc, ◌+◌, ◌-◌, ◌*◌, ◌^◌, ◌≤◌, ◌<◌}
-use mathlib.Core.Path.{◌≡◌, sym, ap, ◌∙◌}
+use mathlib.Core.Path.{◌≡◌, refl, sym, ap, ◌∙◌}
 use mathlib.Core.List.{List, [], ◌∷◌, ◌++◌}
 use native.Mathlib.Nat.{add-mul, mul-add, mul_comm, mul_assoc, mul_left_comm, mul-le-mul, zero-mul, suc-mul, pow-suc}
 use native.Mathlib.Numerals.{add-one}
 use native.Mathlib.Omega.{arith}
 use lib.Arith.{digits_lt}
-use lib.Dec.{leb, eqb}
-use lib.ListN.{length, take, get_or, set}
-use lib.Seq.{take-suc, take-suc-set, take_all, length-take-le}
-use borrow.Author.Tests.{le-leb, lt-leb, ne_eqb}
-use Rattle.figure.specs.Wide.{value, room, Taken}
+use lib.ListN.{length, take, get_or, set, length-set}
+use lib.Seq.{take-suc, take-suc-set, take_all, length-take-le, get_or-set_other}
+use Rattle.std.specs.Prelude.{◌≢◌}
+use Rattle.figure.specs.Wide.{value, room}
 
 -- The weight of limb i.
 abbrev pub weight : ℕ → ℕ
@@ -66,28 +65,6 @@ less_on v u w p b x y low over more h e =
     let t : (low + y + over) * p ≡ (x + b * more) * p = ap (λ (z : ℕ). z * p) e in
     omega arith
 
--- A turn of `times`.
-pub times_step : (w out : List ℕ) (k i low over more : ℕ) → i < length w → i < length out
-    → value (take i out) + over * weight i ≡ k * value (take i w) → low + 2 ^ 32 * more ≡ get_or w i 0 * k + over
-    → value (take (i + 1) (set out i low)) + more * weight (i + 1) ≡ k * value (take (i + 1) w)
-times_step w out k i low over more hw ho h e =
-    rw (value_set out i low ho, value_more w i hw, weight_more i)
-    (times_on (value (take i out)) (value (take i w)) (weight i) (2 ^ 32) k (get_or w i 0) low over more h e)
-
--- A turn of `less`.
-pub less_step : (a b out : List ℕ) (i low over more : ℕ) → i < length a → i < length b → i < length out
-    → value (take i out) + value (take i b) ≡ value (take i a) + over * weight i → low + get_or b i 0 + over ≡ get_or a i 0 + 2 ^ 32 * more
-    → value (take (i + 1) (set out i low)) + value (take (i + 1) b) ≡ value (take (i + 1) a) + more * weight (i + 1)
-less_step a b out i low over more ha hb ho h e =
-    rw (value_set out i low ho, value_more a i ha, value_more b i hb, weight_more i)
-    (less_on (value (take i out)) (value (take i b)) (value (take i a)) (weight i) (2 ^ 32) (get_or a i 0) (get_or b i 0) low over more h e)
-
--- The limbs stored so far are below the next place's weight.
-pub fits_step : (out : List ℕ) (i low : ℕ) → i < length out → low < 2 ^ 32 → value (take i out) < weight i → value (take (i + 1) (set out i low)) < weight (i + 1)
-fits_step out i low ho hl h =
-    rw (value_set out i low ho, weight_more i)
-    (let d : low * weight i + value (take i out) < 2 ^ 32 * weight i = digits_lt hl h in omega (arith, mul_comm (2 ^ 32) (weight i)))
-
 -- A limb times a small number, with what came over.
 pub limb_fits : (a k over : ℕ) → a < 2 ^ 32 → k ≤ 10 → over < 10 → a * k + over < 10 * 2 ^ 32
 limb_fits a k over ha hk ho = let m : a * k ≤ (2 ^ 32 - 1) * 10 = mul-le-mul {n₂ = 2 ^ 32 - 1} (omega arith) hk in omega arith
@@ -101,35 +78,91 @@ nine : (i : ℕ) → i ≡ 9 → weight i ≡ room
 unfolding room
 nine i e = ap weight e
 
+-- ---- nine limbs, each of which takes the place of the one that it comes from
+
+-- What was there is there from limb i on, after a store to limb i too.
+kept : (was now : List ℕ) (i low : ℕ) → ((j : ℕ) → i ≤ j → get_or now j 0 ≡ get_or was j 0) → (j : ℕ) → i + 1 ≤ j
+    → get_or (set now i low) j 0 ≡ get_or was j 0
+kept was now i low h j l = let n : j ≢ i = omega arith in rw get_or-set_other (h j (omega arith))
+
+-- The limbs up to i are k times those that were there, with what goes over.
+pub record Multiplied (k : ℕ) (was now : List ℕ) (i over : ℕ) : Type 0 where
+  pub long : (length was ≡ 9) × (length now ≡ 9)
+  pub small : over < 10
+  pub rest : (j : ℕ) → i ≤ j → get_or now j 0 ≡ get_or was j 0
+  pub sum : value (take i now) + over * weight i ≡ k * value (take i was)
+
+pub multiplied_none : (k : ℕ) (was : List ℕ) → length was ≡ 9 → Multiplied k was was 0 0
+unfolding value
+multiplied_none k was l = record { long = (l, l); small = omega arith; rest = λ j h. refl; sum = omega arith }
+
+pub multiplied_more : (k : ℕ) (was now : List ℕ) (i over low more : ℕ) → i < 9 → Multiplied k was now i over
+    → low + 2 ^ 32 * more ≡ get_or now i 0 * k + over → more < 10 → Multiplied k was (set now i low) (i + 1) more
+multiplied_more k was now i over low more h m e f =
+    let w : i < length was = omega (arith, m.long.0) in
+    let n : i < length now = omega (arith, m.long.1) in
+    let d : low + 2 ^ 32 * more ≡ get_or was i 0 * k + over = rw (m.rest i (omega arith)) at e in
+    record {
+      long = (m.long.0, simp length-set m.long.1);
+      small = f;
+      rest = kept was now i low m.rest;
+      sum =
+          rw (value_set now i low n, value_more was i w, weight_more i)
+          (times_on (value (take i now)) (value (take i was)) (weight i) (2 ^ 32) k (get_or was i 0) low over more m.sum d);
+    }
+
 -- Nothing is left over past the last limb of a product that fits.
-pub times_end : (w out : List ℕ) (k i over : ℕ) → i ≡ 9 → length w ≡ 9 → length out ≡ 9
-    → value (take i out) + over * weight i ≡ k * value (take i w) → k * value w < room → value out ≡ k * value w
-times_end w out k i zero e hw ho h fits =
-    let p : value out + 0 * room ≡ k * value w = rw (whole out i e ho, whole w i e hw, nine i e) at h in
+pub multiplied_all : (k : ℕ) (was now : List ℕ) (i over : ℕ) → Multiplied k was now i over → i ≡ 9 → k * value was < room → value now ≡ k * value was
+multiplied_all k was now i zero m e fits =
+    let p : value now + 0 * room ≡ k * value was = rw (whole now i e m.long.1, whole was i e m.long.0, nine i e) at m.sum in
     omega (arith, zero-mul room)
-times_end w out k i (suc n) e hw ho h fits =
-    let p : value out + suc n * room ≡ k * value w = rw (whole out i e ho, whole w i e hw, nine i e) at h in
+multiplied_all k was now i (suc n) m e fits =
+    let p : value now + suc n * room ≡ k * value was = rw (whole now i e m.long.1, whole was i e m.long.0, nine i e) at m.sum in
     absurd (omega (arith, suc-mul n room))
 
--- What `less` has found at the last limb.
-pub less_end : (a b out : List ℕ) (i over : ℕ) → i ≡ 9 → length a ≡ 9 → length b ≡ 9 → length out ≡ 9
-    → value (take i out) + value (take i b) ≡ value (take i a) + over * weight i → value (take i out) < weight i → over ≤ 1
-    → Taken (value a) (value b) (value out) over
-less_end a b out i over e ha hb ho h f bit = record {
-  sum = rw (whole out i e ho, whole b i e hb, whole a i e ha, nine i e) at h;
-  fits = rw (whole out i e ho, nine i e) at f;
-  bit = bit;
-}
+-- The limbs up to i are those of a less those of b, with what is borrowed.
+pub record Subtracted (a b now : List ℕ) (i over : ℕ) : Type 0 where
+  pub long : (length a ≡ 9) × (length b ≡ 9) × (length now ≡ 9)
+  pub bit : over ≤ 1
+  pub rest : (j : ℕ) → i ≤ j → get_or now j 0 ≡ get_or a j 0
+  pub sum : value (take i now) + value (take i b) ≡ value (take i a) + over * weight i
+  pub fits : value (take i now) < weight i
 
--- Nothing is over where what is subtracted is no larger.
-pub over_leb : (a b rest over : ℕ) → Taken a b rest over → eqb over 0 ≡ leb b a
-over_leb a b rest zero t = let h : b ≤ a = omega (arith, t.sum, zero-mul room) in rw (le-leb b a h)
-over_leb a b rest (suc n) t =
-    let h : a < b = omega (arith, t.sum, suc-mul n room) in
-    let k : suc n ≡ 0 → ⊥ = omega arith in
-    rw (lt-leb b a h, ne_eqb (suc n) 0 k)
+pub subtracted_none : (a b : List ℕ) → length a ≡ 9 → length b ≡ 9 → Subtracted a b a 0 0
+unfolding value
+subtracted_none a b l k = record { long = (l, k, l); bit = omega arith; rest = λ j h. refl; sum = omega arith; fits = omega arith }
 
--- What is left where what is subtracted is no larger.
-pub taken_rest : (a b rest over : ℕ) → Taken a b rest over → b ≤ a → rest + b ≡ a
-taken_rest a b rest zero t h = omega (arith, t.sum, zero-mul room)
-taken_rest a b rest (suc n) t h = absurd (omega (arith, t.sum, t.fits, suc-mul n room))
+pub subtracted_more : (a b now : List ℕ) (i over low more : ℕ) → i < 9 → Subtracted a b now i over
+    → low + get_or b i 0 + over ≡ get_or now i 0 + 2 ^ 32 * more → low < 2 ^ 32 → more ≤ 1 → Subtracted a b (set now i low) (i + 1) more
+subtracted_more a b now i over low more h m e f g =
+    let ha : i < length a = omega (arith, m.long.0) in
+    let hb : i < length b = omega (arith, m.long.1) in
+    let n : i < length now = omega (arith, m.long.2) in
+    let d : low + get_or b i 0 + over ≡ get_or a i 0 + 2 ^ 32 * more = rw (m.rest i (omega arith)) at e in
+    record {
+      long = (m.long.0, m.long.1, simp length-set m.long.2);
+      bit = g;
+      rest = kept a now i low m.rest;
+      sum =
+          rw (value_set now i low n, value_more a i ha, value_more b i hb, weight_more i)
+          (less_on (value (take i now)) (value (take i b)) (value (take i a)) (weight i) (2 ^ 32) (get_or a i 0) (get_or b i 0) low over more m.sum d);
+      fits =
+          rw (value_set now i low n, weight_more i)
+          (let l : low * weight i + value (take i now) < 2 ^ 32 * weight i = digits_lt f m.fits in omega (arith, mul_comm (2 ^ 32) (weight i)));
+    }
+
+-- All nine limbs: what is left, where nothing is borrowed past the last.
+pub subtracted_all : (a b now : List ℕ) (i over : ℕ) → Subtracted a b now i over → i ≡ 9 → over ≡ 0
+    → (value b ≤ value a) × (value now ≡ value a - value b)
+subtracted_all a b now i zero m e z =
+    let p : value now + value b ≡ value a + 0 * room = rw (whole now i e m.long.2, whole b i e m.long.1, whole a i e m.long.0, nine i e) at m.sum in
+    (omega (arith, zero-mul room), omega (arith, zero-mul room))
+subtracted_all a b now i (suc n) m e z = absurd (omega arith)
+
+-- Something is borrowed where b is larger.
+pub subtracted_larger : (a b now : List ℕ) (i over : ℕ) → Subtracted a b now i over → i ≡ 9 → (over ≡ 0 → ⊥) → value a < value b
+subtracted_larger a b now i zero m e z = absurd (z refl)
+subtracted_larger a b now i (suc n) m e z =
+    let p : value now + value b ≡ value a + suc n * room = rw (whole now i e m.long.2, whole b i e m.long.1, whole a i e m.long.0, nine i e) at m.sum in
+    let f : value now < room = rw (whole now i e m.long.2, nine i e) at m.fits in
+    omega (arith, suc-mul n room)

@@ -2,17 +2,16 @@
 use Prim.Native.Nat.{ℕ, zero, suc, ◌+◌, ◌-◌, ◌*◌, ◌/◌, ◌%◌, ◌^◌, ◌≤◌, ◌<◌, compare, Ordering}
 use mathlib.Core.Path.{◌≡◌, refl, sym, ap, ◌∙◌}
 use mathlib.Core.Bool.{Bool, true, false, true≢false}
-use native.Mathlib.Nat.{add-mul, mul_comm, mul_assoc, mul_left_comm, mul-one, zero-mul, pow-suc, mul-pos, mul-le-mul_right, mul-lt-mul_of_pos_left, lt_of_mul-lt-mul_right, lt_of_lt_of_le, lt_trans, le_trans}
+use native.Mathlib.Nat.{add-mul, mul_comm, mul_assoc, mul_left_comm, mul-one, pow-suc, mul-pos, mul-le-mul_right, mul-lt-mul_of_pos_left, lt_of_mul-lt-mul_right, lt_of_lt_of_le, lt_trans, le_trans}
 use native.Mathlib.Numerals.{add-one}
 use native.Mathlib.Omega.{arith}
 use lib.Arith.{digits_div, digits_mod}
 use lib.Dec.{leb, is_le, compare_is_eq, lit<, lit≤}
-use lib.IntN.{pos, ◌-ℤ◌}
 use lib.Ieee.{nearest}
 use lib.Pow.{shl_lt, pow_mono, pow_pos}
 use borrow.Author.Tests.{le-leb, lt-leb, leb-true, leb-false, eq-eqb, ne_eqb}
-use Rattle.lsm_format.specs.Calibration.{tens_above, tens_below, hundredfold, figure_text, figure_by}
-use Rattle.figure.specs.Wide.{room, Scaled, Divided, Quotient, Hundreds, Near, figure_of}
+use Rattle.lsm_format.specs.Calibration.{tens_above, tens_below, hundredfold}
+use Rattle.figure.specs.Wide.{room, Scaled, Divided, Quotient, Near}
 
 -- ---- a mantissa of 24 bits, doubled
 
@@ -121,23 +120,18 @@ divided_few num den d rest h f = lt_of_mul-lt-mul_right den (omega arith)
 
 -- ---- three digits, and the rounding of the last
 
--- A quotient of at least 1 has a first digit above 0.
-first_digit : (num den a rest : ℕ) → num ≡ a * den + rest → rest < den → den ≤ num → 0 < a
-first_digit num den zero rest h s l = absurd (omega (arith, zero-mul den))
-first_digit num den (suc a) rest h s l = omega arith
-
 -- Three digits, each of ten times what the one before left.
-pub three : (num den a r b s c t u v : ℕ) → Divided num den a r → u ≡ 10 * r → Divided u den b s → v ≡ 10 * s → Divided v den c t → den ≤ num
+pub three : (num den a r b s c t u v : ℕ) → Divided num den a r → u ≡ 10 * r → Divided u den b s → v ≡ 10 * s → Divided v den c t
     → Quotient num den (100 * a + 10 * b + c) t
-three num den a r b s c t u v x e y f z l =
-    let h : (100 * a + 10 * b + c) * den ≡ 100 * (a * den) + 10 * (b * den) + c * den =
+three num den a r b s c t u v x e y f z =
+    let q = 100 * a + 10 * b + c in
+    let h : q * den ≡ 100 * (a * den) + 10 * (b * den) + c * den =
     add-mul (100 * a + 10 * b) c den
     ∙ ap (λ (k : ℕ). k + c * den) (add-mul (100 * a) (10 * b) den ∙ ap (λ (k : ℕ). k + 10 * b * den) (mul_assoc 100 a den) ∙ ap (λ (k : ℕ). 100 * (a * den) + k) (mul_assoc 10 b den)) in
-    let p : 0 < a = first_digit num den a r x.sum x.small l in
+    let p : 100 * num ≡ q * den + t = omega (arith, x.sum, y.sum, z.sum) in
     record {
-      sum = omega (arith, x.sum, y.sum, z.sum);
-      small = z.small;
-      least = omega arith;
+      digits = sym (ap (λ (n : ℕ). n / den) p ∙ digits_div q z.small);
+      left = sym (ap (λ (n : ℕ). n % den) p ∙ digits_mod q z.small);
       most = omega (arith, x.one, y.one, z.one);
     }
 
@@ -157,44 +151,24 @@ order_gt Ordering.lt h = absurd (true≢false h)
 order_gt Ordering.eq h = absurd (true≢false h)
 order_gt Ordering.gt h = refl
 
--- The hundredfold by its three digits and what is left.
-rounding : (num den q rest : ℕ) → Quotient num den q rest → hundredfold num den ≡ nearest q (compare (rest * 2) den)
-rounding num den q rest x =
-    ap (λ (z : ℕ). nearest (z / den) (compare (z % den * 2) den)) x.sum
-    ∙ ap (λ (z : ℕ). nearest z (compare ((q * den + rest) % den * 2) den)) (digits_div q x.small)
-    ∙ ap (λ (z : ℕ). nearest q (compare (z * 2) den)) (digits_mod q x.small)
+module _ (num den : ℕ) where
+  -- Less than half is left.
+  pub round_down : 100 * num % den * 2 < den → hundredfold num den ≡ 100 * num / den
+  round_down h =
+      let r = 100 * num % den * 2 in
+      let a : r ≤ den = omega arith in
+      let n : r ≡ den → ⊥ = omega arith in
+      ap (nearest (100 * num / den)) (order_lt (compare r den) (le-leb r den a) (ne_eqb r den n))
 
--- Less than half is left.
-pub round_down : (num den q rest twice : ℕ) → Quotient num den q rest → twice ≡ 2 * rest → leb den twice ≡ false → Hundreds (hundredfold num den) q
-round_down num den q rest twice x e h =
-    let l : twice < den = leb-false den twice h in
-    let a : rest * 2 ≤ den = omega arith in
-    let n : rest * 2 ≡ den → ⊥ = omega arith in
-    record {
-      right = sym (rounding num den q rest x ∙ ap (nearest q) (order_lt (compare (rest * 2) den) (le-leb (rest * 2) den a) (ne_eqb (rest * 2) den n)));
-      most = omega (arith, x.most);
-    }
+  -- Half is left: to the even one.
+  pub round_half : 100 * num % den * 2 ≡ den → hundredfold num den ≡ 100 * num / den + 100 * num / den % 2
+  round_half h = let r = 100 * num % den * 2 in ap (nearest (100 * num / den)) (order_eq (compare r den) (eq-eqb r den h))
 
--- Half is left: to the even one.
-pub round_half : (num den q rest twice : ℕ) → Quotient num den q rest → twice ≡ 2 * rest → leb den twice ≡ true → leb twice den ≡ true → Hundreds (hundredfold num den) (q + q % 2)
-round_half num den q rest twice x e h k =
-    let l : den ≤ twice = leb-true den twice h in
-    let m : twice ≤ den = leb-true twice den k in
-    let n : rest * 2 ≡ den = omega arith in
-    record {
-      right = sym (rounding num den q rest x ∙ ap (nearest q) (order_eq (compare (rest * 2) den) (eq-eqb (rest * 2) den n)));
-      most = omega (arith, x.most);
-    }
-
--- More than half is left.
-pub round_up : (num den q rest twice : ℕ) → Quotient num den q rest → twice ≡ 2 * rest → leb twice den ≡ false → Hundreds (hundredfold num den) (q + 1)
-round_up num den q rest twice x e k =
-    let m : den < twice = leb-false twice den k in
-    let n : den < rest * 2 = omega arith in
-    record {
-      right = add-one q ∙ sym (rounding num den q rest x ∙ ap (nearest q) (order_gt (compare (rest * 2) den) (lt-leb (rest * 2) den n)));
-      most = omega (arith, x.most);
-    }
+  -- More than half is left.
+  pub round_up : den < 100 * num % den * 2 → hundredfold num den ≡ 100 * num / den + 1
+  round_up h =
+      let r = 100 * num % den * 2 in
+      ap (nearest (100 * num / den)) (order_gt (compare r den) (lt-leb r den h)) ∙ sym (add-one (100 * num / den))
 
 -- ---- where the tens stop
 
@@ -259,14 +233,6 @@ between num den top a bottom b near up low =
     let x : den ≤ top = rw C (below_le 64 num den near.above_tens) in
     let y : top < 10 * den = rw C (below_lt 64 num den k) in
     (omega arith, omega arith, omega (arith, near.den_room)))
-
--- The figure of a fraction from its tens and its three digits.
-pub figure_by_lem : (num den top a bottom b q : ℕ) → Scaled (tens_above 64 num den) den 64 bottom a → Scaled (tens_below 64 num den) num 64 top b → q ≡ hundredfold top bottom
-    → figure_text q (pos a -ℤ pos b) ≡ figure_of num den
-figure_by_lem num den top a bottom b q up low e =
-    ap (λ (z : ℕ). figure_text z (pos a -ℤ pos b)) (e ∙ ap (λ (z : ℕ). hundredfold z bottom) low.scaled ∙ ap (λ (z : ℕ). hundredfold (num * 10 ^ b) z) up.scaled)
-    ∙ ap (λ (z : ℕ). figure_by z b num den) up.right
-    ∙ ap (λ (z : ℕ). figure_by (tens_above 64 num den) z num den) low.right
 
 -- A pattern's fraction is near 1, as 64 powers of ten go.
 pub near : (m k v : ℕ) → 0 < m → m < 2 ^ 24 → k < 254 → v ≡ 1 * 2 ^ 149 → Near (m * 2 ^ k) v

@@ -1,5 +1,5 @@
 -- Wide numbers as limbs of 32 bits, the lowest first, and what the steps on them give.
-use Rattle.std.specs.Prelude.{ℕ, ◌+◌, ◌*◌, ◌^◌, ◌≤◌, ◌<◌, ◌≡◌, List, [], ◌∷◌}
+use Rattle.std.specs.Prelude.{ℕ, ◌+◌, ◌*◌, ◌/◌, ◌%◌, ◌^◌, ◌≤◌, ◌<◌, ◌≡◌, List, [], ◌∷◌}
 use Rattle.lsm_format.specs.Calibration.{tens_above, tens_below, figure_by}
 
 -- The number that limbs stand for: the sum of limb i times 2 ^ (32 * i).
@@ -10,12 +10,6 @@ value (x ∷ xs) = x + 2 ^ 32 * value xs
 -- What nine limbs hold is below this.
 unfoldable pub room : ℕ
 room = 2 ^ 288
-
--- a less b: the rest, and 1 over where b is larger.
-pub record Taken (a b rest over : ℕ) : Type 0 where
-  pub sum : rest + b ≡ a + over * room
-  pub fits : rest < room
-  pub bit : over ≤ 1
 
 -- n with `count` tens multiplied in, where the definition asks for `wanted` of at most `left`.
 pub record Scaled (wanted n left r count : ℕ) : Type 0 where
@@ -31,9 +25,8 @@ pub record Divided (num den digit rest : ℕ) : Type 0 where
 
 -- The hundredfold of num by den: three digits and a rest.
 pub record Quotient (num den q rest : ℕ) : Type 0 where
-  pub sum : 100 * num ≡ q * den + rest
-  pub small : rest < den
-  pub least : 100 ≤ q
+  pub digits : q ≡ 100 * num / den
+  pub left : rest ≡ 100 * num % den
   pub most : q < 1000
 
 -- Three digits, or 1000 where they round up.

@@ -1,222 +1,124 @@
 // The figure of a note: a number as a short exponential, as `1e-13`, `5e-7` or `2.5e-7`.
-// The value is a fraction of two numbers of nine limbs: no rounding is done before the last digit's.
+// The value is a fraction of two wide numbers: no rounding is done before the last digit's.
 #![tactic(auto)]
 
-ghost use Rattle.std.specs.Prelude.{◌≡◌, List, [], ◌∷◌, ◌++◌, ℕ, ◌+◌, ◌*◌, ◌^◌, ◌≤◌, ◌<◌, leb, pos, ◌-ℤ◌};
-ghost use Rattle.arrayvec.specs.ArrayVec.{array_vec_len};
+mod wide;
+
+ghost use Rattle.std.specs.Prelude.{◌≡◌, ◌∷◌, ◌++◌, ◌+◌, ◌*◌, ◌^◌, ◌≤◌, ◌<◌, pos, ◌-ℤ◌};
 ghost use Rattle.std.specs.Float.{binary32};
 ghost use Rattle.std.specs.Float.Ieee.{of_bits};
+ghost use Rattle.arrayvec.specs.ArrayVec.{array_vec_len};
 ghost use Rattle.lsm_format.specs.Calibration.{figure, tens_above, tens_below, hundredfold, digit, mantissa, two_digits, exponent_text, figure_text};
-ghost use Rattle.figure.specs.Wide.{value, room, Taken, Scaled, Divided, Quotient, Hundreds, Near, figure_of};
+ghost use Rattle.figure.specs.Code.{number_of};
+ghost use Rattle.figure.specs.Wide.{room, Scaled, Divided, Quotient, Hundreds, Near, figure_of};
 
+use crate::wide::Wide;
 use arrayvec::ArrayVec;
-
-// A limb, and what goes over to the next.
-#[derive(Clone, Copy)]
-struct Limb {
-    low: u32,
-    over: u32,
-}
-
-// A limb times a small number, with what came over.
-fn limb_times(a: u32, k: u32, over: u32) -> Limb
-    requires { (k ≤ 10) × (over < 10) }
-    ensures { (result.low + 2 ^ 32 * result.over ≡ a * k + over) × (result.over < 10) }
-{
-    let sum = (a as u64) * (k as u64) + (over as u64);
-    Limb {
-        low: (sum % 0x1_0000_0000) as u32,
-        over: (sum / 0x1_0000_0000) as u32,
-    }
-}
-
-// A limb less another, and less what the limb before borrowed.
-fn limb_less(a: u32, b: u32, over: u32) -> Limb
-    requires { over ≤ 1 }
-    ensures { (result.low + b + over ≡ a + 2 ^ 32 * result.over) × (result.low < 2 ^ 32) × (result.over ≤ 1) }
-{
-    let sum = 0x1_0000_0000 + (a as u64) - (b as u64) - (over as u64);
-    Limb {
-        low: (sum % 0x1_0000_0000) as u32,
-        over: 1 - (sum / 0x1_0000_0000) as u32,
-    }
-}
-
-// A wide number times a small one.
-fn times(w: [u32; 9], k: u32) -> [u32; 9]
-    requires { (k ≤ 10) × (k * value w < room) }
-    ensures { value result ≡ k * value w }
-{
-    let mut out = [0u32; 9];
-    let mut over: u32 = 0;
-    let mut i = 0;
-    while i < 9 {
-        let limb = limb_times(w[i], k, over);
-        out[i] = limb.low;
-        over = limb.over;
-        i += 1;
-    }
-    out
-}
-
-// What is left of a wide number. `over` is 1 where the other was larger, and was borrowed past the last limb.
-#[derive(Clone, Copy)]
-struct Difference {
-    rest: [u32; 9],
-    over: u32,
-}
-
-// `a` less `b`, limb by limb.
-fn less(a: [u32; 9], b: [u32; 9]) -> Difference
-    ensures { Taken (value a) (value b) (value result.rest) result.over }
-{
-    let mut out = [0u32; 9];
-    let mut over: u32 = 0;
-    let mut i = 0;
-    while i < 9 {
-        let limb = limb_less(a[i], b[i], over);
-        out[i] = limb.low;
-        over = limb.over;
-        i += 1;
-    }
-    Difference { rest: out, over }
-}
-
-// Whether `a` is no smaller than `b`.
-fn at_least(a: [u32; 9], b: [u32; 9]) -> bool
-    ensures { result ≡ leb (value b) (value a) }
-{
-    less(a, b).over == 0
-}
-
-// `n` doubled `k` times: a mantissa's own power of two.
-fn doubled(n: u32, k: u32) -> [u32; 9]
-    requires { (n < 2 ^ 24) × (k < 254) }
-    ensures { value result ≡ n * 2 ^ k }
-{
-    let mut w = [n, 0, 0, 0, 0, 0, 0, 0, 0];
-    let mut i: u32 = 0;
-    while i < k {
-        let next = times(w, 2);
-        w = next;
-        i += 1;
-    }
-    w
-}
 
 // A wide number with `count` tens multiplied in.
 #[derive(Clone, Copy)]
 struct Tens {
-    limbs: [u32; 9],
+    number: Wide,
     count: u32,
 }
 
+// The two functions below stay two: one looks at the number after the ten is multiplied in, the other before it.
+
 // den, with a ten multiplied in while num is at least ten times as large; asked at most `left` times.
-fn above(num: [u32; 9], den: [u32; 9], left: u32) -> Tens
-    requires { (10 * value num < room) × (10 * value den < room) }
-    ensures { Scaled (tens_above left (value num) (value den)) (value den) left (value result.limbs) result.count }
+#[tactic(auto, using(crate::proofs::Powers::above_zero, crate::proofs::Powers::above_stop))]
+fn above(num: Wide, den: Wide, left: u32) -> Tens
+    requires { (10 * number_of num < room) × (10 * number_of den < room) }
+    ensures { Scaled (tens_above left (number_of num) (number_of den)) (number_of den) left (number_of result.number) result.count }
 {
+    let stop = Tens {
+        number: den,
+        count: 0,
+    };
     if left == 0 {
-        return Tens {
-            limbs: den,
-            count: 0,
-        };
+        return stop;
     }
-    let next = times(den, 10);
-    if at_least(num, next) {
+    let next = den.times(10);
+    if num.at_least(next) {
         let more = above(num, next, left - 1);
-        let limbs = more.limbs;
         return Tens {
-            limbs,
+            number: more.number,
             count: more.count + 1,
         };
     }
-    Tens {
-        limbs: den,
-        count: 0,
-    }
+    stop
 }
 
 // num, with a ten multiplied in while it is below den; asked at most `left` times.
-fn below(num: [u32; 9], den: [u32; 9], left: u32) -> Tens
-    requires { 10 * value den < room }
-    ensures { Scaled (tens_below left (value num) (value den)) (value num) left (value result.limbs) result.count }
+#[tactic(auto, using(crate::proofs::Powers::below_zero, crate::proofs::Powers::below_stop))]
+fn below(num: Wide, den: Wide, left: u32) -> Tens
+    requires { 10 * number_of den < room }
+    ensures { Scaled (tens_below left (number_of num) (number_of den)) (number_of num) left (number_of result.number) result.count }
 {
-    if left == 0 {
+    if left == 0 || num.at_least(den) {
         return Tens {
-            limbs: num,
+            number: num,
             count: 0,
         };
     }
-    if at_least(num, den) {
-        return Tens {
-            limbs: num,
-            count: 0,
-        };
-    }
-    let more = below(times(num, 10), den, left - 1);
-    let limbs = more.limbs;
+    let more = below(num.times(10), den, left - 1);
     Tens {
-        limbs,
+        number: more.number,
         count: more.count + 1,
     }
 }
 
 // A quotient of few digits, and what is left.
 #[derive(Clone, Copy)]
-struct Digit {
-    digit: u32,
-    rest: [u32; 9],
+struct Digits {
+    digits: u32,
+    rest: Wide,
 }
 
 // How often den goes into num, a digit, and what is left.
-fn divided(num: [u32; 9], den: [u32; 9]) -> Digit
-    requires { value num < 10 * value den }
-    ensures { Divided (value num) (value den) result.digit (value result.rest) }
+#[tactic(auto, using(crate::proofs::Powers::divided_on, crate::proofs::Powers::divided_few))]
+fn divided(num: Wide, den: Wide) -> Digits
+    requires { number_of num < 10 * number_of den }
+    ensures { Divided (number_of num) (number_of den) result.digits (number_of result.rest) }
 {
     let mut rest = num;
-    let mut digit: u32 = 0;
-    while at_least(rest, den) {
-        let taken = less(rest, den);
-        rest = taken.rest;
-        digit += 1;
+    let mut digits = 0;
+    while let Some(less) = rest.checked_sub(den) {
+        rest = less;
+        digits += 1;
     }
-    Digit { digit, rest }
+    Digits { digits, rest }
 }
 
 // Three digits of num / den, the first before the point, and what is left of the hundredfold.
-fn three_digits(num: [u32; 9], den: [u32; 9]) -> Digit
-    requires { (value den ≤ value num) × (value num < 10 * value den) × (10 * value den < room) }
-    ensures { Quotient (value num) (value den) result.digit (value result.rest) }
+fn three_digits(num: Wide, den: Wide) -> Digits
+    requires { (number_of den ≤ number_of num) × (number_of num < 10 * number_of den) × (10 * number_of den < room) }
+    ensures { Quotient (number_of num) (number_of den) result.digits (number_of result.rest) }
 {
     let a = divided(num, den);
-    let a_rest = a.rest;
-    let b = divided(times(a_rest, 10), den);
-    let b_rest = b.rest;
-    let c = divided(times(b_rest, 10), den);
-    let rest = c.rest;
-    Digit {
-        digit: 100 * a.digit + 10 * b.digit + c.digit,
-        rest,
+    let b = divided(a.rest.times(10), den);
+    let c = divided(b.rest.times(10), den);
+    Digits {
+        digits: 100 * a.digits + 10 * b.digits + c.digits,
+        rest: c.rest,
     }
 }
 
 // The hundredfold of num / den to the nearest whole number, halves to the even one.
-fn hundreds(num: [u32; 9], den: [u32; 9]) -> u32
-    requires { (value den ≤ value num) × (value num < 10 * value den) × (10 * value den < room) }
-    ensures { Hundreds (hundredfold (value num) (value den)) result }
+#[tactic(auto, using(crate::proofs::Powers::round_down, crate::proofs::Powers::round_half, crate::proofs::Powers::round_up))]
+fn hundreds(num: Wide, den: Wide) -> u32
+    requires { (number_of den ≤ number_of num) × (number_of num < 10 * number_of den) × (10 * number_of den < room) }
+    ensures { Hundreds (hundredfold (number_of num) (number_of den)) result }
 {
     let three = three_digits(num, den);
-    let q = three.digit;
-    let rest = three.rest;
-    let twice = times(rest, 2);
-    if at_least(twice, den) {
-        if at_least(den, twice) {
-            return q + q % 2;
-        }
-        return q + 1;
+    let q = three.digits;
+    let twice = three.rest.times(2);
+    if !twice.at_least(den) {
+        q
+    } else if den.at_least(twice) {
+        q + q % 2
+    } else {
+        q + 1
     }
-    q
 }
 
 // A digit as a letter.
@@ -289,15 +191,13 @@ fn text(q: u32, above: u32, below: u32) -> ArrayVec<u8, 8>
 
 // The figure of num / den, which is at most 64 powers of ten from 1.
 #[tactic(auto, using(crate::proofs::Powers::between))]
-fn fraction_text(num: [u32; 9], den: [u32; 9]) -> ArrayVec<u8, 8>
-    requires { Near (value num) (value den) }
-    ensures { result.items ≡ figure_of (value num) (value den) }
+fn fraction_text(num: Wide, den: Wide) -> ArrayVec<u8, 8>
+    requires { Near (number_of num) (number_of den) }
+    ensures { result.items ≡ figure_of (number_of num) (number_of den) }
 {
     let up = above(num, den, 64);
     let down = below(num, den, 64);
-    let top = down.limbs;
-    let bottom = up.limbs;
-    text(hundreds(top, bottom), up.count, down.count)
+    text(hundreds(down.number, up.number), up.count, down.count)
 }
 
 // The figure of the f32 with this pattern, and none where it is not above 0 or not finite.
@@ -311,9 +211,9 @@ pub fn short_exponential(bits: u32) -> ArrayVec<u8, 8>
     // The value is the mantissa doubled field - 1 times, over 2 ^ 149: a field of 0 counts as 1 and has no leading bit.
     let field = bits / 0x80_0000;
     let low = bits % 0x80_0000;
-    let den = doubled(1, 149);
+    let den = Wide::new(1).doubled(149);
     if field == 0 {
-        return fraction_text(doubled(low, 0), den);
+        return fraction_text(Wide::new(low), den);
     }
-    fraction_text(doubled(0x80_0000 + low, field - 1), den)
+    fraction_text(Wide::new(0x80_0000 + low).doubled(field - 1), den)
 }

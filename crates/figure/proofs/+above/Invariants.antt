@@ -1,6 +1,6 @@
--- `figure::above` meets its contract. It calls itself at `left - 1`, so its measure is `left`. Each answer is one question of `tens_above`:
--- none is left, the next ten fits, or it doesn't (`above_zero`, `above_go`, `above_stop`). The call needs ten times the new `den` to have
--- room: it is no more than ten times `num`, which has. Assumes nothing.
+-- `figure::above` meets its contract. It calls itself at `left - 1`, so its measure is `left`. Each way out is one question of `tens_above`:
+-- none is left, the next ten doesn't fit (`above_zero`, `above_stop`, which the function's attribute names), or it does (`above_go`). The
+-- call needs ten times the new `den` to have room: it is no more than ten times `num`, which has. Assumes nothing.
 use Rattle.figure.proofs.+above.Given as goal
 
 abbrev pub decreases-above : goal.decreases-above

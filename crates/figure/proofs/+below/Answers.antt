@@ -1,12 +1,7 @@
+-- Where `num` is below `den`, the rest was found from ten times `num` (`below_go`). Assumes nothing.
 use mathlib.Core.Path.{sym, ◌∙◌}
-use Rattle.figure.proofs.Powers.{below_zero, below_stop, below_go}
+use Rattle.figure.proofs.Powers.{below_go}
 use Rattle.figure.proofs.+below.Goals as goal
-
-pub returns-then-left-eq0 : goal.returns-then-left-eq0
-returns-then-left-eq0 t c = below_zero _ _ _ c.if-left-eq0.true
-
-pub returns-then-at_least : goal.returns-then-at_least
-returns-then-at_least t c = below_stop _ _ _ (sym c.at_least.ensures ∙ c.if-at_least.true)
 
 pub returns : goal.returns
 returns t c =

@@ -4,6 +4,4 @@ use Rattle.figure.proofs.Powers.{three}
 use Rattle.figure.proofs.three_digits.Goals as goal
 
 pub returns : goal.returns
-returns c =
-    three _ _ _ _ _ _ _ _ _ _ c.divided-a.ensures c.times.ensures c.divided-b.ensures c.times-2.ensures
-    c.divided-c.ensures c.requires.0
+returns c = three _ _ _ _ _ _ _ _ _ _ c.divided-a.ensures c.times.ensures c.divided-b.ensures c.times-2.ensures c.divided-c.ensures
