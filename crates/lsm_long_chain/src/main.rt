@@ -3,7 +3,7 @@
 // is a sample kind that isn't taken: 3. host/compare asks the Rust the same.
 #![tactic(auto)]
 
-ghost use Rattle.std.specs.Prelude.{◌≡◌, ◌+◌, ◌≤◌, ◌<◌, length};
+ghost use Rattle.std.specs.Prelude.{◌≡◌, ◌+◌, ◌≤◌, length};
 
 use buffers::zeros;
 use lsm_c::lsm_open;
@@ -11,84 +11,48 @@ use lsm_words::answers::OPEN_WORDS;
 use std::io;
 use std::io::Write;
 
-// Where the directories begin, and the bytes of each: a count of 0, and the next pointer.
-const HEADER: usize = 8;
+// Little-endian, the first directory at 8.
+const HEADER: &[u8] = b"II\x2a\0\x08\0\0\0";
 
+// The bytes of a directory: a count of 0, and the pointer to the next.
 const DIRECTORY: usize = 6;
 
 // The longer file: 1,000,001 directories.
 const ROOM: usize = 6_000_014;
 
-// The lowest byte of a number.
-fn low(n: usize) -> u8
-    ensures { result < 256 }
-{
-    (n % 256) as u8
-}
-
-// Writes a number of four bytes, the lowest first.
-fn put(file: &mut [u8], at: usize, n: usize)
-    requires { at + 4 ≤ length file.old }
-    ensures { length file.new ≡ length file.old }
-{
-    file[at] = low(n);
-    file[at + 1] = low(n / 256);
-    file[at + 2] = low(n / 65536);
-    file[at + 3] = low(n / 16777216);
-}
-
 // Leads each directory to the next, as long as another one has room. The memory holds zeros where no pointer stands.
-fn link(file: &mut [u8])
-    ensures { length file.new ≡ length file.old }
+fn link(directories: &mut [u8])
+    requires { 6 ≤ length directories.old }
+    ensures { length directories.new ≡ length directories.old }
 {
-    let mut at = HEADER;
-    while at + 2 * DIRECTORY <= file.len() {
-        put(file, at + 2, at + DIRECTORY);
-        at += DIRECTORY;
+    let last = directories.len() - DIRECTORY;
+    let mut next: u32 = 8;
+    for directory in directories[..last].chunks_exact_mut(DIRECTORY) {
+        next = next.saturating_add(6);
+        directory[2..].copy_from_slice(&next.to_le_bytes());
     }
-}
-
-// Writes the header: little-endian, the first directory at 8.
-fn head(file: &mut [u8])
-    requires { 8 ≤ length file.old }
-    ensures { length file.new ≡ length file.old }
-{
-    file[0] = b'I';
-    file[1] = b'I';
-    file[2] = 42;
-    file[4] = 8;
 }
 
 // Makes the file of the memory, opens it, and prints the number that opening returns.
-fn tell<W: Write>(out: &mut W, name: &[u8], file: &mut [u8]) -> io::Result<()>
-    requires { 8 ≤ length file.old }
+fn tell<W: Write>(out: &mut W, name: &str, file: &mut [u8]) -> io::Result<()>
+    requires { 14 ≤ length file.old }
     ensures { length file.new ≡ length file.old }
 {
-    head(file);
-    link(file);
+    let (header, directories) = file.split_at_mut(HEADER.len());
+    header.copy_from_slice(HEADER);
+    link(directories);
     let mut answer = [0usize; OPEN_WORDS];
     let number = lsm_open(file, &mut [], &mut answer);
-    out.write_all(name)?;
-    writeln!(out, "{number}")
+    writeln!(out, "{name} directories: {number}")
 }
 
-// The same with the first bytes of the memory, where there are as many.
-fn tell_of<W: Write>(out: &mut W, name: &[u8], bytes: usize, file: &mut [u8]) -> io::Result<()>
-    requires { 8 ≤ bytes }
-    ensures { length file.new ≡ length file.old }
+// Both files in the memory, the shorter one first.
+fn tell_both<W: Write>(out: &mut W, file: &mut [u8]) -> io::Result<()>
+    requires { 20 ≤ length file.old }
 {
-    if bytes <= file.len() {
-        return tell(out, name, &mut file[..bytes]);
-    }
-    Ok(())
-}
-
-// Both files in the memory, whose length is known from its type.
-fn tell_both<W: Write>(out: &mut W, file: &mut [u8; ROOM]) -> io::Result<()>
-    ensures { length file.new ≡ length file.old }
-{
-    tell_of(out, b"1000000 directories: ", ROOM - DIRECTORY, file)?;
-    tell_of(out, b"1000001 directories: ", ROOM, file)
+    let shorter = file.len() - DIRECTORY;
+    tell(out, "1000000", &mut file[..shorter])?;
+    tell(out, "1000001", file)
 }
 
 fn main(rt: HostRuntime) -> io::Result<()> {
