@@ -11,7 +11,8 @@ use Rattle.lsm_format.specs.Directory.{Directory}
 use Rattle.lsm_format.specs.Open.{Page, pages_of, chain, table_words}
 use Rattle.lsm_format.specs.Open as Open
 use Rattle.lsm_format.proofs.Open.{table_words_append}
-use Rattle.lsm_directory.specs.Code.{first_meant}
+use Rattle.std.specs.Prelude.{option_map}
+use Rattle.lsm_directory.specs.Code.{directory_of}
 use Rattle.lsm_reader.specs.Walked.{walk_of, LaidPage}
 use Rattle.lsm_reader.specs.declared.chain.Walk.{Walk}
 use Rattle.lsm_reader.proofs.Circles.{Again}
@@ -55,4 +56,4 @@ pub record Going (o : Order) (f lent : List ℕ) (place mark : ℕ) (w : Walk) (
   pub counted : w.pages ≡ length pages
   pub goes : chain (1000000 - w.visited) (eqb place 0) o f place (walk_of o f pages w) ≡ Open.walk o f
   pub laid : Laid pages used lent table
-  pub again : Again o f 0 (first_meant o f w.first) mark place
+  pub again : Again o f 0 (option_map (directory_of o f) w.first) mark place

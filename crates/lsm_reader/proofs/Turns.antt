@@ -4,7 +4,7 @@ use native.Mathlib.Omega.{arith}
 use native.Mathlib.Nat.{sub-zero}
 use mathlib.Core.Bool.{Bool, true, false, cond}
 use mathlib.Core.Logic.{◌⊎◌, ⊎_elim, inl, inr}
-use Rattle.std.specs.Prelude.{Option}
+use Rattle.std.specs.Prelude.{Option, Ok, Err, option_map}
 use mathlib.Core.Path.{◌≡◌, refl, sym, ap, subst, ◌∙◌}
 use mathlib.Core.List.{List, [], ◌++◌}
 use lib.Dec.{eqb, ltb}
@@ -22,20 +22,14 @@ use Rattle.lsm_format.specs.Open as Open
 use Rattle.lsm_format.proofs.Accepting.{not_both}
 use Rattle.lsm_format.proofs.Open.{chain_end, chain_full, chain_short, chain_stop, chain_turn, chain_disagrees}
 use Rattle.lsm_format.proofs.Pages.{agreed_arrays}
-use Rattle.lsm_directory.specs.Code.{directory_of, SmallEnds, first_meant}
+use Rattle.lsm_directory.specs.Code.{directory_of}
 use Rattle.lsm_directory.specs.declared.Directory.{Directory}
 use Rattle.lsm_values.proofs.Laws.{values_length}
-use Rattle.lsm_directory.specs.declared.Ends.{Ends}
-use Rattle.lsm_directory.specs.declared.Ends.TheVariants.{At}
 use Rattle.lsm_reader.specs.Walked.{visit_ends, walk_of, marked, LaidPage, WalkedAs}
 use Rattle.lsm_reader.specs.declared.chain.Walk.{Walk}
 use Rattle.lsm_reader.specs.declared.chain.Mark.{Mark}
-use Rattle.lsm_reader.specs.declared.chain.WalkAnswer.TheVariants.{Walked, Refused}
 use Rattle.lsm_reader.proofs.Circles.{Again, keeps_self, again_here, again_less, again_turn, circle}
 use Rattle.lsm_reader.proofs.Going.{laid_more, Going}
-
-pub small_ends : (r : Ends) (n next : ℕ) → r ≡ At n next → SmallEnds r → (n < 2 ^ 16) × (next < 2 ^ 32)
-small_ends r n next e s = subst SmallEnds e s
 
 -- ---- visits
 
@@ -51,23 +45,23 @@ module _ (o : Order) (f : List ℕ) (place visited : ℕ) where
       by false l q = absurd (not_both parse x q)
 
   -- the limit, or no directory
-  pub no_visit : visit_ends o f place visited ≡ refused parse →
-      (1000000 ≤ visited) ⊎ ((visited < 1000000) × (ends o f place ≡ refused parse))
+  pub no_visit : (row : List ℕ) → visit_ends o f place visited ≡ refused row →
+      ((1000000 ≤ visited) × (parse ≡ row)) ⊎ ((visited < 1000000) × (ends o f place ≡ refused row))
   unfolding visit_ends bind
-  no_visit e = by (ltb visited 1000000) refl e
+  no_visit row e = by (ltb visited 1000000) refl e
     where
-      by : (b : Bool) → ltb visited 1000000 ≡ b → bind (need parse b) (λ _. ends o f place) ≡ refused parse →
-          (1000000 ≤ visited) ⊎ ((visited < 1000000) × (ends o f place ≡ refused parse))
+      by : (b : Bool) → ltb visited 1000000 ≡ b → bind (need parse b) (λ _. ends o f place) ≡ refused row →
+          ((1000000 ≤ visited) × (parse ≡ row)) ⊎ ((visited < 1000000) × (ends o f place ≡ refused row))
       by true l q = inr (ltb-true _ _ l, q)
-      by false l q = inl (ltb-false _ _ l)
+      by false l q = inl (ltb-false _ _ l, cc)
 
 -- ---- the ways out, and the turn
 
 module _ (o : Order) (f lent : List ℕ) where
   -- before the first directory
-  pub no_first : (table : List ℕ) → u32_at o f 4 ≡ refused parse → WalkedAs o f lent table (Refused Parse)
+  pub no_first : (r : Refusal) (table : List ℕ) → u32_at o f 4 ≡ refused (row_of r) → WalkedAs o f lent table (Err r)
   unfolding walk bind
-  no_first table h = record { pages = []; is = rw h; counted = tt; filled = tt }
+  no_first r table h = record { pages = []; is = rw h; counted = tt; filled = tt }
 
   pub first_place : (place : ℕ) (w : Walk) → u32_at o f 4 ≡ accepted place → w.visited ≡ 0 → w.pages ≡ 0 → walk_of o f [] w ≡ start →
       Going o f lent place place w 0 lent
@@ -78,14 +72,14 @@ module _ (o : Order) (f lent : List ℕ) where
         counted = p;
         goes = rw (s, v, sub-zero, h);
         laid = record { long = refl; room = omega arith; laid = λ l. (refl, refl) };
-        again = again_here o f (first_meant o f w.first) place;
+        again = again_here o f (option_map (directory_of o f) w.first) place;
       }
 
   module _ (place mark : ℕ) (w : Walk) (used : ℕ) (table : List ℕ) (g : Going o f lent place mark w used table) where
-    refuses : (r : Refusal) → refused (row_of r) ≡ walk o f → WalkedAs o f lent table (Refused r)
+    refuses : (r : Refusal) → refused (row_of r) ≡ walk o f → WalkedAs o f lent table (Err r)
     refuses r e = record { pages = []; is = e; counted = tt; filled = tt }
 
-    pub at_end : place ≡ 0 → WalkedAs o f lent table (Walked w)
+    pub at_end : place ≡ 0 → WalkedAs o f lent table (Ok w)
     at_end z =
         record {
           pages = g.pages;
@@ -98,14 +92,15 @@ module _ (o : Order) (f lent : List ℕ) where
       left : w.visited < 1000000 → chain (suc (1000000 - (w.visited + 1))) (eqb place 0) o f place (walk_of o f g.pages w) ≡ walk o f
       left h = let one : suc (1000000 - (w.visited + 1)) ≡ 1000000 - w.visited = omega arith in rw one g.goes
 
-      pub no_ends : visit_ends o f place w.visited ≡ refused parse → WalkedAs o f lent table (Refused Parse)
-      no_ends e =
+      pub no_ends : (r : Refusal) → visit_ends o f place w.visited ≡ refused (row_of r) → WalkedAs o f lent table (Err r)
+      no_ends r e =
           ⊎_elim
           (λ h.
           let full : 1000000 - w.visited ≡ 0 = omega arith in
-          refuses Parse (sym (chain_full o f place (walk_of o f g.pages w) z) ∙ rw full at g.goes))
-          (λ q. refuses Parse (sym (chain_short o f place _ z _ q.1) ∙ left q.0))
-          (no_visit o f place w.visited e)
+          let short : chain 0 (eqb place 0) o f place (walk_of o f g.pages w) ≡ refused (row_of r) = chain_full o f place (walk_of o f g.pages w) z ∙ cc in
+          refuses r (sym short ∙ rw full at g.goes))
+          (λ q. refuses r (sym (chain_short o f place _ z _ (row_of r) q.1) ∙ left q.0))
+          (no_visit o f place w.visited (row_of r) e)
 
       module _ (n next : ℕ) (e : visit_ends o f place w.visited ≡ accepted (n, next)) where
         below : w.visited < 1000000
@@ -114,34 +109,34 @@ module _ (o : Order) (f lent : List ℕ) where
         there : ends o f place ≡ accepted (n, next)
         there = (visited_ends o f place w.visited (n, next) e).1
 
-        pub bad_entry : (r : Refusal) → entries n o f (place + 2) 0 plain ≡ refused (row_of r) → WalkedAs o f lent table (Refused r)
+        pub bad_entry : (r : Refusal) → entries n o f (place + 2) 0 plain ≡ refused (row_of r) → WalkedAs o f lent table (Err r)
         bad_entry r b = refuses r (sym (chain_stop o f place _ z _ n next there (row_of r) b) ∙ left below)
 
         module _ (d : Directory) (b : entries n o f (place + 2) 0 plain ≡ accepted (directory_of o f d)) where
-          pub disagrees : (r : Refusal) → agrees (first_meant o f w.first) (directory_of o f d) ≡ refused (row_of r) → WalkedAs o f lent table (Refused r)
+          pub disagrees : (r : Refusal) → agrees (option_map (directory_of o f) w.first) (directory_of o f d) ≡ refused (row_of r) → WalkedAs o f lent table (Err r)
           disagrees r a = refuses r (sym (chain_disagrees o f place (walk_of o f g.pages w) z _ n next there (directory_of o f d) b (row_of r) a) ∙ left below)
 
-          module _ (a : agrees (first_meant o f w.first) (directory_of o f d) ≡ accepted tt) (v : Walk)
+          module _ (a : agrees (option_map (directory_of o f) w.first) (directory_of o f d) ≡ accepted tt) (v : Walk)
               (j : (ps : List Page) → walk_of o f (ps ++ pages_of (directory_of o f d)) v ≡ joined (walk_of o f ps w) (directory_of o f d)) where
             turned : chain (1000000 - (w.visited + 1)) (eqb next 0) o f next (walk_of o f (g.pages ++ pages_of (directory_of o f d)) v) ≡ walk o f
             turned =
                 rw (j g.pages) (sym (chain_turn o f place (walk_of o f g.pages w) z _ n next there (directory_of o f d) b a)) ∙ left below
 
-            first_is : earlier (first_meant o f w.first) (full_page (directory_of o f d)) ≡ first_meant o f v.first
+            first_is : earlier (option_map (directory_of o f) w.first) (full_page (directory_of o f d)) ≡ option_map (directory_of o f) v.first
             first_is = sym (ap (λ (x : Open.Walk). x.first) (j []))
 
-            comes : Again o f 1 (first_meant o f v.first) mark next
+            comes : Again o f 1 (option_map (directory_of o f) v.first) mark next
             comes =
                 rw (← first_is)
-                (again_turn o f (first_meant o f w.first) mark place next (directory_of o f d) z
+                (again_turn o f (option_map (directory_of o f) w.first) mark place next (directory_of o f d) z
                 (λ k u q. chain_turn o f place u z k n next there (directory_of o f d) b q) a g.again)
 
             -- the chain is back at its mark
-            pub circled : (after : List ℕ) → next ≡ mark → WalkedAs o f lent after (Refused Parse)
+            pub circled : (after : List ℕ) → next ≡ mark → WalkedAs o f lent after (Err Parse)
             circled after back =
                 record {
                   pages = [];
-                  is = sym (rw back (circle o f (first_meant o f v.first) mark (rw back at comes) _ _ (keeps_self (first_meant o f v.first)))) ∙ turned;
+                  is = sym (rw back (circle o f (option_map (directory_of o f) v.first) mark (rw back at comes) _ _ (keeps_self (option_map (directory_of o f) v.first)))) ∙ turned;
                   counted = tt;
                   filled = tt;
                 }
@@ -155,7 +150,7 @@ module _ (o : Order) (f lent : List ℕ) where
                   counted = c;
                   goes = subst (λ (x : ℕ). chain (1000000 - x) (eqb next 0) o f next (walk_of o f (g.pages ++ pages_of (directory_of o f d)) v) ≡ walk o f) (sym s) turned;
                   laid = laid_more g.pages (directory_of o f d) used r lent table after l g.laid p;
-                  again = ⊎_elim (λ q. rw q (again_less o f (first_meant o f v.first) mark next comes)) (λ q. rw q (again_here o f (first_meant o f v.first) next)) m;
+                  again = ⊎_elim (λ q. rw q (again_less o f (option_map (directory_of o f) v.first) mark next comes)) (λ q. rw q (again_here o f (option_map (directory_of o f) v.first) next)) m;
                 }
 
 -- a mark stays, or moves to the place ahead

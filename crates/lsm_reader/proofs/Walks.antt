@@ -2,12 +2,14 @@
 use Prim.Native.Nat.{ℕ, ◌+◌, ◌-◌, ◌*◌, ◌≤◌, ◌<◌}
 use native.Mathlib.Nat.{add-zero, not-le_of_lt}
 use native.Mathlib.Omega.{arith}
-use mathlib.Core.Path.{◌≡◌, sym, ap, ◌∙◌}
+use mathlib.Core.Path.{◌≡◌, refl, sym, ap, ◌∙◌}
+use Rattle.std.specs.Prelude.{Option, None, Some, option_map}
+use Rattle.std.specs.Option.{option_or}
 use mathlib.Core.List.{List, [], ◌∷◌, ◌++◌}
 use lib.ListN.{length, get_or, take, set, length-append, length-set, take-append-drop}
 use borrow.Rule.Slice.PartMut.{put_mid, Post-is}
 use Rattle.lsm_format.specs.Numbers.{Order}
-use Rattle.lsm_format.specs.Open.{Page, strip_words}
+use Rattle.lsm_format.specs.Open.{Page, earlier, strip_words}
 use Rattle.lsm_format.proofs.Lists.{take_store, take_full}
 use Rattle.lsm_format.proofs.Open.{strip_words_length, strip_offset, strip_count}
 use Rattle.lsm_values.specs.declared.StripArray.{StripArray}
@@ -18,6 +20,11 @@ use Rattle.lsm_values.proofs.Laws.{values_length}
 -- one page more
 pub one_more : (n : ℕ) (ps : List Page) (p : Page) → n ≡ length ps → n + 1 ≡ length (ps ++ p ∷ [])
 one_more n ps p e = rw length-append (omega arith)
+
+-- of two, the earlier, by their meanings
+pub kept_or : {A B : Type 0} (meant : A → B) (a b : Option A) → option_map meant (option_or a b) ≡ earlier (option_map meant a) (option_map meant b)
+kept_or meant None b = refl
+kept_or meant (Some x) b = refl
 
 -- ---- the table
 

@@ -13,18 +13,18 @@ use Rattle.lsm_format.proofs.Accepting.{accepting_told}
 use Rattle.lsm_format.proofs.Pages.{Even, walk_even}
 use Rattle.lsm_values.proofs.Laws.{values_length}
 use Rattle.lsm_reader.specs.Walked.{walk_of}
-use Rattle.lsm_directory.specs.Code.{first_meant}
+use Rattle.std.specs.Prelude.{Option, None, Some, option_map}
+use Rattle.lsm_directory.specs.Code.{directory_of}
+use Rattle.lsm_directory.specs.declared.Directory.{Directory}
 use Rattle.lsm_reader.specs.Opening.{strips_of}
-use Rattle.lsm_directory.specs.declared.First.{First}
-use Rattle.lsm_directory.specs.declared.First.TheVariants.{Absent, Page as FirstPage}
 use Rattle.lsm_reader.specs.declared.chain.Walk.{Walk as Kept}
 
 -- the words of a walk, by its count of pages and the strips of its first page
-by_first : (o : Order) (f : List ℕ) (ps : List Page) (n : ℕ) (x : First) → Even (first_meant o f x) ps → n ≡ length ps →
+by_first : (o : Order) (f : List ℕ) (ps : List Page) (n : ℕ) (x : Option Directory) → Even (option_map (directory_of o f) x) ps → n ≡ length ps →
     length (table_words ps) ≡ n * strips_of x * 2
 unfolding Even
-by_first o f ps n Absent e m = rw (e, mul-zero, zero-mul)
-by_first o f ps n (FirstPage d) e m = e ∙ rw (values_length, m)
+by_first o f ps n None e m = rw (e, mul-zero, zero-mul)
+by_first o f ps n (Some d) e m = e ∙ rw (values_length, m)
 
 pub walked_words : (o : Order) (f : List ℕ) (ps : List Page) (w : Kept) → walk o f ≡ accepted (walk_of o f ps w) → w.pages ≡ length ps →
     length (table_words ps) ≡ w.pages * strips_of w.first * 2

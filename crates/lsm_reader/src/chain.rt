@@ -1,20 +1,19 @@
 // The walk along the chain of directories, and the strips that it lays into the table.
 ghost use Rattle.std.specs.Prelude.{◌≡◌, List, [], ◌++◌, ℕ, ◌+◌, ◌*◌, ◌≤◌, ◌<◌, length};
-ghost use Rattle.lsm_format.specs.Code.{order_of};
+ghost use Rattle.lsm_format.specs.Code.{order_of, answer_by};
 ghost use Rattle.lsm_format.specs.Numbers.{Order};
-ghost use Rattle.lsm_format.specs.Open.{Page, earlier, pages_of, strip_words, table_words};
+ghost use Rattle.lsm_format.specs.Open.{Page, pages_of, strip_words, table_words};
 ghost use Rattle.lsm_format.specs.Open as Open;
 ghost use Rattle.lsm_values.specs.Code.{values_of};
-ghost use Rattle.lsm_directory.specs.Code.{directory_of, cz_of, ends_of, SmallEnds};
+ghost use Rattle.lsm_directory.specs.Code.{directory_of, ends_of};
 ghost use Rattle.lsm_reader.specs.Walked.{LaidPage, walk_of, visit_ends, marked, WalkedAs};
 
-use lsm_bytes::{U32, read_u32};
+use lsm_bytes::read_u32;
 use lsm_directory::{
-    CzEntry, Directory, Ends, EntryAnswer, First, agrees, directory_ends, is_reduced,
-    plain_directory, put_value, read_entry,
+    Directory, Ends, agrees, directory_ends, is_reduced, plain_directory, put_value, read_entry,
 };
-use lsm_format::error::{Check, Refusal};
-use lsm_format::types::Endian;
+use lsm_format::error::Refusal;
+use lsm_format::types::{CzTag, Endian};
 use lsm_values::{StripArray, strip_value};
 
 // What the directories visited so far tell.
@@ -22,14 +21,8 @@ use lsm_values::{StripArray, strip_value};
 pub struct Walk {
     pub visited: usize,
     pub pages: usize,
-    pub first: First,
-    pub cz: CzEntry,
-}
-
-#[derive(Clone, Copy)]
-pub enum WalkAnswer {
-    Walked(Walk),
-    Refused(Refusal),
+    pub first: Option<Directory>,
+    pub cz: Option<CzTag>,
 }
 
 // The walk before its first directory.
@@ -39,52 +32,32 @@ fn no_directory() -> Walk
     Walk {
         visited: 0,
         pages: 0,
-        first: First::Absent,
-        cz: CzEntry::Absent,
+        first: None,
+        cz: None,
     }
 }
 
-// The first directory that has a CZ entry wins.
-fn first_entry(kept: CzEntry, later: CzEntry) -> CzEntry
-    ensures { cz_of result ≡ earlier (cz_of kept) (cz_of later) }
-{
-    match kept {
-        CzEntry::Absent => later,
-        CzEntry::Block(offset, declared) => CzEntry::Block(offset, declared),
-    }
-}
-
-// A directory that agrees joins the walk: a reduced page supplies at most the CZ entry.
+// A directory that agrees joins the walk. The first full page is kept, and the first directory that has a CZ entry wins: a reduced page
+// supplies at most that.
 fn join(w: Walk, d: Directory) -> Walk
     requires { (w.visited < 1000000) × (w.pages ≤ w.visited) }
     ensures joined { (o : Order) (f : List ℕ) (ps : List Page) → walk_of o f (ps ++ pages_of (directory_of o f d)) result ≡ Open.joined (walk_of o f ps w) (directory_of o f d) }
     ensures stepped { (result.visited ≡ w.visited + 1) × (result.pages ≤ w.pages + 1) }
     ensures counted { (o : Order) (f : List ℕ) (ps : List Page) → w.pages ≡ length ps → result.pages ≡ length (ps ++ pages_of (directory_of o f d)) }
 {
-    let kept = w.cz;
-    let found = d.cz;
-    let cz = first_entry(kept, found);
-    let first = w.first;
+    let cz = w.cz.or(d.cz);
     if is_reduced(d.new_subfile_type) {
         return Walk {
             visited: w.visited + 1,
             pages: w.pages,
-            first,
+            first: w.first,
             cz, // the entry of a reduced page counts
         };
     }
-    let First::Page(_) = first else {
-        return Walk {
-            visited: w.visited + 1,
-            pages: w.pages + 1,
-            first: First::Page(d),
-            cz,
-        };
-    };
     Walk {
         visited: w.visited + 1,
         pages: w.pages + 1,
-        first, // as it was: a page that is taken out and put back is copied
+        first: w.first.or(Some(d)),
         cz,
     }
 }
@@ -93,12 +66,12 @@ fn join(w: Walk, d: Directory) -> Walk
 const MAX_IFDS: usize = 1_000_000;
 
 // The ends of the directory at a place, where one more may be visited.
-fn visit(buf: &[u8], place: usize, visited: usize, e: Endian) -> Ends
-    ensures ends { ends_of result ≡ visit_ends (order_of e) buf.now place visited }
-    ensures small { SmallEnds result }
+#[tactic(auto, unfolding(crate::specs::Walked::visit_ends, lsm_format::specs::Answer::bind))]
+fn visit(buf: &[u8], place: usize, visited: usize, e: Endian) -> Result<Ends, Refusal>
+    ensures { answer_by ends_of result ≡ visit_ends (order_of e) buf.now place visited }
 {
     if MAX_IFDS <= visited {
-        return Ends::Parse;
+        return Err(Refusal::Parse);
     }
     directory_ends(buf, place, e)
 }
@@ -130,11 +103,9 @@ fn fill_strips(buf: &[u8], offsets: StripArray, counts: StripArray, e: Endian, o
     requires { (length out.old ≡ 2 * offsets.count) × (counts.count ≡ offsets.count) }
     ensures { out.new ≡ strip_words (values_of (order_of e) buf.now offsets) (values_of (order_of e) buf.now counts) }
 {
-    let mut i: usize = 0;
-    while i < offsets.count {
+    for i in 0..offsets.count {
         out[2 * i] = strip_value(buf, offsets, i, e);
         out[2 * i + 1] = strip_value(buf, counts, i, e);
-        i += 1;
     }
 }
 
@@ -146,56 +117,49 @@ fn lay_page(buf: &[u8], d: Directory, e: Endian, used: usize, table: &mut [usize
     if is_reduced(d.new_subfile_type) {
         return used;
     }
-    let offsets = d.offsets;
-    let counts = d.counts;
-    if (table.len() - used) / 2 < offsets.count {
+    if (table.len() - used) / 2 < d.offsets.count {
         return used;
     }
-    let end = used + 2 * offsets.count;
-    fill_strips(buf, offsets, counts, e, &mut table[used..end]);
+    let end = used + 2 * d.offsets.count;
+    fill_strips(buf, d.offsets, d.counts, e, &mut table[used..end]);
     end
 }
 
 // Walks the chain and judges every directory on it; it is left at the first refusal, from inside an entry too. A chain in a circle never
 // ends, and would be refused after 1,000,000 visits: it is refused when the walk comes back to the mark. The strips of the full pages are
 // laid into the table as far as there is room, so a table of no words is left as it is.
-pub(crate) fn walk_chain(buf: &[u8], e: Endian, table: &mut [usize]) -> WalkAnswer
+pub(crate) fn walk_chain(buf: &[u8], e: Endian, table: &mut [usize]) -> Result<Walk, Refusal>
     ensures { WalkedAs (order_of e) buf.now table.old table.new result }
 {
-    let U32::Value(start) = read_u32(buf, 4, e) else {
-        return WalkAnswer::Refused(Refusal::Parse);
-    };
-    let mut place = start as usize;
+    let mut place = read_u32(buf, 4, e)? as usize;
     let mut mark = Mark { place, until: 1 };
     let mut w = no_directory();
     let mut used: usize = 0;
     'dirs: loop {
         if place == 0 {
-            break 'dirs WalkAnswer::Walked(w);
+            break 'dirs Ok(w);
         }
-        let Ends::At(n, next) = visit(buf, place, w.visited, e) else {
-            break 'dirs WalkAnswer::Refused(Refusal::Parse);
+        let ends = match visit(buf, place, w.visited, e) {
+            Ok(ends) => ends,
+            Err(r) => break 'dirs Err(r),
         };
         let mut d = plain_directory();
-        let mut i: usize = 0;
-        'entries: while i < n {
+        'entries: for i in 0..ends.entries {
             match read_entry(buf, place + 2 + 12 * i, e) {
-                EntryAnswer::Value(v) => d = put_value(d, v),
-                EntryAnswer::Refused(r) => break 'dirs WalkAnswer::Refused(r),
+                Ok(v) => d = put_value(d, v),
+                Err(r) => break 'dirs Err(r),
             }
-            i += 1;
         }
-        let first = w.first;
-        match agrees(first, d) {
-            Check::Accepted => {}
-            Check::Refused(r) => break 'dirs WalkAnswer::Refused(r),
+        match agrees(w.first, d) {
+            Ok(()) => {}
+            Err(r) => break 'dirs Err(r),
         }
         w = join(w, d);
         used = lay_page(buf, d, e, used, table);
-        if next == mark.place {
-            break 'dirs WalkAnswer::Refused(Refusal::Parse);
+        if ends.next == mark.place {
+            break 'dirs Err(Refusal::Parse);
         }
-        mark = move_mark(mark, w.visited, next);
-        place = next;
+        mark = move_mark(mark, w.visited, ends.next);
+        place = ends.next;
     }
 }

@@ -2,5 +2,5 @@
 #![tactic(auto)]
 
 mod chain;
-pub mod header;
+mod header;
 pub mod open;

@@ -9,10 +9,7 @@ use Rattle.lsm_reader.proofs.chain.walk_chain.Given as goal
 -- what is left of the entries, from here and with what they stated so far, is what all of them are from the start
 abbrev pub invariant-entries : goal.invariant-entries
 invariant-entries l =
-    (l.i ≤ l.n) × (entries (l.n - l.i) (order_of l.e) l.buf (l.place + 2) l.i (directory_of (order_of l.e) l.buf l.d) ≡ entries l.n (order_of l.e) l.buf (l.place + 2) 0 plain)
-
-abbrev pub decreases-entries : goal.decreases-entries
-decreases-entries l = l.n - l.i
+    (l.i ≤ l.ends.entries) × (entries (l.ends.entries - l.i) (order_of l.e) l.buf (l.place + 2) l.i (directory_of (order_of l.e) l.buf l.d) ≡ entries l.ends.entries (order_of l.e) l.buf (l.place + 2) 0 plain)
 
 -- what is left of the chain, from here and with the walk so far, is what the whole walk answers (`Going`)
 abbrev pub invariant-dirs : goal.invariant-dirs
