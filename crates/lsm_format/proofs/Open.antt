@@ -85,9 +85,9 @@ chain_full o f place w z = rw (ne_eqb place 0 z)
 
 -- a directory's turn: its ends, its entries, what it is held to
 module _ (o : Order) (f : List ℕ) (place : ℕ) (w : Walk) (z : place ≡ 0 → ⊥) (k : ℕ) where
-  pub chain_short : ends o f place ≡ refused parse → chain (suc k) (eqb place 0) o f place w ≡ refused parse
+  pub chain_short : (row : List ℕ) → ends o f place ≡ refused row → chain (suc k) (eqb place 0) o f place w ≡ refused row
   unfolding chain directory bind
-  chain_short h = rw (ne_eqb place 0 z, h)
+  chain_short row h = rw (ne_eqb place 0 z, h)
 
   module _ (n next : ℕ) (h : ends o f place ≡ accepted (n, next)) where
     pub chain_stop : (row : List ℕ) → entries n o f (place + 2) 0 plain ≡ refused row → chain (suc k) (eqb place 0) o f place w ≡ refused row
