@@ -1,7 +1,7 @@
 // The values of a directory's entries: their types, where they stand, single numbers and strip arrays.
 #![tactic(auto)]
 
-ghost use Rattle.std.specs.Prelude.{◌≡◌, ℕ, ◌+◌, ◌*◌, ◌≤◌, ◌<◌, get_or, None, Some, option_map};
+ghost use Rattle.std.specs.Prelude.{◌≡◌, ◌+◌, ◌*◌, ◌≤◌, ◌<◌, get_or, None, Some, option_map};
 ghost use Rattle.lsm_format.specs.Code.{order_of, answer_of, answer_by};
 ghost use Rattle.lsm_format.specs.Numbers.{Order, number_at};
 ghost use Rattle.lsm_format.specs.Words.{word};
