@@ -10,7 +10,10 @@ use Rattle.lsm_channel_colors.specs.Code.{Seen, seen, Looked}
 use Rattle.lsm_format.specs.Picture.{Samples, into}
 use Rattle.lsm_region.specs.Code.{shape_of, Pictured}
 use Rattle.lsm_reader.specs.Opening.{told_of, opened_of, OpenedAs}
-use Rattle.lsm_reader.specs.declared.open.OpenAnswer.{OpenAnswer}
+use Rattle.lsm_reader.specs.declared.open.Opened.{Opened}
+use Rattle.lsm_format.specs.declared.error.Refusal.{Refusal}
+use Rattle.lsm_format.specs.Code.{answer_by}
+use Rattle.std.specs.Prelude.{Result as Answer}
 use Rattle.lsm_words.specs.Description.{described_by}
 use Rattle.lsm_words.specs.Answers.{open_length, channel_length, picture_length, padded, open_words, channel_words, picture_words}
 use Rattle.lsm_c.specs.Calls.{number_of, OpenedBy, lookup_by, lookup_memory_by, Answered, LookedUp, PicturedBy}
@@ -26,7 +29,7 @@ open_number : (x : Result Rule.Opened) → get_or (open_words (told_of x)) 0 0 �
 open_number (accepted o) = refl
 open_number (refused row) = row_number open_length row
 
-pub opened_by : {f lent table w : List ℕ} {a : OpenAnswer} → OpenedAs f lent table a → w ≡ open_words (opened_of a) →
+pub opened_by : {f lent table w : List ℕ} {a : Answer Opened Refusal} → OpenedAs f lent table a → w ≡ open_words (answer_by opened_of a) →
     OpenedBy f lent table w (get_or w 0 0)
 opened_by {f} {lent} h e =
     let is = e ∙ ap open_words h.answered in

@@ -2,11 +2,13 @@
 // 01's number, 0 where it accepts, and overwrites the whole of `answer`: with the answer, or with a refusal's row and zeros after it.
 #![tactic(auto)]
 
-ghost use Rattle.lsm_channel_colors.specs.Code.{answer_of};
+ghost use Rattle.lsm_format.specs.Code.{answer_by};
+ghost use Rattle.lsm_channel_colors.specs.Code.{meta_of};
 ghost use Rattle.lsm_c.specs.Calls.{OpenedBy, Answered, LookedUp};
 
-use lsm_channel_colors::ChannelAnswer;
-use lsm_description::{DescriptionAnswer, channel};
+use lsm_channel_colors::ChannelMeta;
+use lsm_description::channel;
+use lsm_format::error::Refusal;
 use lsm_reader::open::open_file;
 use lsm_words::answers::{CHANNEL_WORDS, OPEN_WORDS, channel_words, open_words};
 use lsm_words::description::{DESCRIPTION_WORDS, read_description};
@@ -28,13 +30,11 @@ fn look_up(
     description: &[usize; DESCRIPTION_WORDS],
     index: usize,
     name: &mut [u8],
-) -> ChannelAnswer
-    ensures { Answered file.now description.now index name.old name.new (answer_of result) }
+) -> Result<ChannelMeta, Refusal>
+    ensures { Answered file.now description.now index name.old name.new (answer_by meta_of result) }
 {
-    match read_description(description) {
-        DescriptionAnswer::Described(d) => channel(file, d, index, name),
-        DescriptionAnswer::Refused(r) => ChannelAnswer::Refused(r),
-    }
+    let d = read_description(description)?;
+    channel(file, d, index, name)
 }
 
 // The colour and name of a channel. The name's text is written to `name`.

@@ -1,12 +1,12 @@
 // Pictures through the C interface.
-ghost use Rattle.lsm_format.specs.Code.{rect_of};
+ghost use Rattle.lsm_format.specs.Code.{rect_of, coordinate_of, answer_by};
 ghost use Rattle.lsm_format.specs.Rectangle.{coordinate};
-ghost use Rattle.lsm_region.specs.Code.{answer_of, Pictured};
+ghost use Rattle.lsm_region.specs.Code.{picture_of, Pictured};
 ghost use Rattle.lsm_c.specs.Calls.{plane_by, region_by, PicturedBy};
 
-use lsm_description::DescriptionAnswer;
-use lsm_format::types::PixelRect;
-use lsm_region::{PictureAnswer, plane, region};
+use lsm_format::error::Refusal;
+use lsm_format::types::{Coordinate, PixelRect};
+use lsm_region::{Picture, plane, region};
 use lsm_words::answers::{PICTURE_WORDS, picture_words};
 use lsm_words::description::{DESCRIPTION_WORDS, read_description};
 
@@ -15,37 +15,27 @@ fn plane_by(
     file: &[u8],
     description: &[usize; DESCRIPTION_WORDS],
     table: &[usize],
-    scene: usize,
-    t: usize,
-    c: usize,
-    z: usize,
+    co: Coordinate,
     out: &mut [u8],
-) -> PictureAnswer
-    ensures { Pictured (plane_by description.now table.now file.now (coordinate scene t c z)) out.old out.new (answer_of result) }
+) -> Result<Picture, Refusal>
+    ensures { Pictured (plane_by description.now table.now file.now (coordinate_of co)) out.old out.new (answer_by picture_of result) }
 {
-    match read_description(description) {
-        DescriptionAnswer::Described(d) => plane(file, d, table, scene, t, c, z, out),
-        DescriptionAnswer::Refused(r) => PictureAnswer::Refused(r),
-    }
+    let d = read_description(description)?;
+    plane(file, d, table, co, out)
 }
 
 fn region_by(
     file: &[u8],
     description: &[usize; DESCRIPTION_WORDS],
     table: &[usize],
-    scene: usize,
-    t: usize,
-    c: usize,
-    z: usize,
+    co: Coordinate,
     rect: PixelRect,
     out: &mut [u8],
-) -> PictureAnswer
-    ensures { Pictured (region_by description.now table.now file.now (coordinate scene t c z) (rect_of rect)) out.old out.new (answer_of result) }
+) -> Result<Picture, Refusal>
+    ensures { Pictured (region_by description.now table.now file.now (coordinate_of co) (rect_of rect)) out.old out.new (answer_by picture_of result) }
 {
-    match read_description(description) {
-        DescriptionAnswer::Described(d) => region(file, d, table, scene, t, c, z, rect, out),
-        DescriptionAnswer::Refused(r) => PictureAnswer::Refused(r),
-    }
+    let d = read_description(description)?;
+    region(file, d, table, co, rect, out)
 }
 
 // A whole picture. Its samples are written to `out`, little-endian, row by row.
@@ -62,7 +52,8 @@ pub fn lsm_plane(
 ) -> usize
     ensures { PicturedBy (plane_by description.now table.now file.now (coordinate scene t c z)) out.old out.new answer.new result }
 {
-    let words = picture_words(plane_by(file, description, table, scene, t, c, z, out));
+    let co = Coordinate { scene, t, c, z };
+    let words = picture_words(plane_by(file, description, table, co, out));
     *answer = words;
     words[0]
 }
@@ -85,8 +76,9 @@ pub fn lsm_region(
 ) -> usize
     ensures { PicturedBy (region_by description.now table.now file.now (coordinate scene t c z) (record { x = x; y = y; w = w; h = h })) out.old out.new answer.new result }
 {
+    let co = Coordinate { scene, t, c, z };
     let rect = PixelRect { x, y, w, h };
-    let words = picture_words(region_by(file, description, table, scene, t, c, z, rect, out));
+    let words = picture_words(region_by(file, description, table, co, rect, out));
     *answer = words;
     words[0]
 }

@@ -7,9 +7,9 @@ use mathlib.Core.List.{List, [], ◌∷◌}
 use lib.ListN.{length, get_or}
 use lib.Bits.{bit_and, and_mask}
 use lib.Dec.{T, ltb}
-use lib.Ieee.{Float, binary32, of_bits, to_bits, nan_bits, ne}
-use lib.Ieee.Bits.{nan_bits_above}
-use lib.Ieee.Compare.{differs_from_itself}
+use lib.Ieee.{Float, nan, inf, fin, binary32, of_bits, to_bits, fits, is_nan, nan_bits}
+use lib.Ieee.Bits.{nan_bits_above, to_bits-lt}
+use Rattle.lsm_format.proofs.Apart.{no_case}
 use borrow.Author.Tests.{lt-ltb, le-ltb}
 use Rattle.lsm_format.specs.Answer.{Result, refused, accepted, bind, decode}
 use Rattle.lsm_format.specs.Calibration.{ZStep, used, absent, placeholder, too_large, Calibration, uncalibrated, sized}
@@ -18,9 +18,14 @@ use Rattle.lsm_words.specs.Calibration.{chosen, float_by, step_by, sized_by}
 
 -- ---- floats
 
-pub nan_word : (x : Float) → ne x x ≡ true → 0x7fc0_0000 ≡ float_word x
-unfolding to_bits
-nan_word x h = rw (differs_from_itself x (subst T (sym h) tt))
+pub nan_word : (x : Float) → is_nan x ≡ true → 0x7fc0_0000 ≡ float_word x
+unfolding to_bits is_nan
+nan_word nan h = refl
+nan_word (inf s) h = no_case cc
+nan_word (fin s m e) h = no_case cc
+
+pub word_small : (x : Float) → T (fits binary32 x) → float_word x < 2 ^ 64
+word_small x h = omega (arith, to_bits-lt binary32 x h)
 
 module _ (n : ℕ) where
   -- without its sign's bit a NaN's pattern is above the infinity's

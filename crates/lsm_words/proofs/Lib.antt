@@ -1,5 +1,5 @@
 pub mod Calibrations
 pub mod Descriptions
 pub mod Back
-pub mod Answered
 pub mod Opened
+pub mod Answered

@@ -1,4 +1,3 @@
 pub mod Calibration
 pub mod Description
 pub mod Answers
-pub mod Code

@@ -1,18 +1,16 @@
 // Answers as words: 0 and the values, or a refusal's row with zeros after it.
-ghost use Rattle.std.specs.Prelude.{◌≡◌, ◌∷◌};
-ghost use Rattle.lsm_format.specs.Code.{row_of};
-ghost use Rattle.lsm_channel_colors.specs.Code as Channel;
-ghost use Rattle.lsm_channel_colors.specs.Code.{color_of, name_of};
+ghost use Rattle.std.specs.Prelude.{◌≡◌, ◌≤◌, ◌∷◌};
+ghost use Rattle.lsm_format.specs.Code.{row_of, answer_by};
+ghost use Rattle.lsm_channel_colors.specs.Code.{meta_of};
 ghost use Rattle.lsm_reader.specs.Opening.{opened_of};
-ghost use Rattle.lsm_region.specs.Code as Picture;
-ghost use Rattle.lsm_words.specs.Answers.{open_length, channel_length, picture_length, padded};
-ghost use Rattle.lsm_words.specs.Answers.{open_words, color_words, name_words, channel_words, picture_words};
+ghost use Rattle.lsm_region.specs.Code.{picture_of};
+ghost use Rattle.lsm_words.specs.Answers.{padded, open_words, color_words, name_words, channel_words, picture_words};
 
 use crate::description::{DESCRIPTION_WORDS, description_words};
-use lsm_channel_colors::{ChannelAnswer, Color, Name};
+use lsm_channel_colors::ChannelMeta;
 use lsm_format::error::Refusal;
-use lsm_reader::open::OpenAnswer;
-use lsm_region::PictureAnswer;
+use lsm_reader::open::Opened;
+use lsm_region::Picture;
 
 // How many words an answer has: of opening, of a channel's lookup, of a picture.
 pub const OPEN_WORDS: usize = 3 + DESCRIPTION_WORDS;
@@ -22,101 +20,72 @@ pub const CHANNEL_WORDS: usize = 8;
 pub const PICTURE_WORDS: usize = 5;
 
 // A refusal's row, with zeros after it.
-fn open_refusal(r: Refusal) -> [usize; OPEN_WORDS]
-    ensures { result ≡ padded open_length (row_of r) }
+#[tactic(auto, using(crate::proofs::Answered::padded_row))]
+fn refusal_words<const N: usize>(r: Refusal) -> [usize; N]
+    requires { 5 ≤ N }
+    ensures { result ≡ padded N (row_of r) }
 {
     let row = r.numbers();
-    let n = row.numbers;
-    let mut words = [0usize; OPEN_WORDS];
-    words[0] = n[0];
-    words[1] = n[1];
-    words[2] = n[2];
-    words[3] = n[3];
-    words[4] = n[4];
+    let mut words = [0; N];
+    words[..row.len()].copy_from_slice(&row);
     words
 }
 
 // 0, the directories visited, the words of the table, the description's words.
-fn opened_words(visited: usize, words: usize, d: [usize; DESCRIPTION_WORDS]) -> [usize; OPEN_WORDS]
-    ensures { result ≡ 0 ∷ visited ∷ words ∷ d }
-{
-    let mut answer = [0usize; OPEN_WORDS];
-    answer[1] = visited;
-    answer[2] = words;
-    let mut i = 0;
-    while i < DESCRIPTION_WORDS {
-        answer[3 + i] = d[i];
-        i += 1;
-    }
-    answer
-}
-
-pub fn open_words(a: OpenAnswer) -> [usize; OPEN_WORDS]
-    ensures { result ≡ open_words (opened_of a) }
+pub fn open_words(a: Result<Opened, Refusal>) -> [usize; OPEN_WORDS]
+    ensures { result ≡ open_words (answer_by opened_of a) }
 {
     match a {
-        OpenAnswer::Opened(o) => {
-            let description = o.description;
-            opened_words(o.visited, o.words, description_words(description))
+        Ok(o) => {
+            let mut words = [0; OPEN_WORDS];
+            words[1] = o.visited;
+            words[2] = o.words;
+            words[3..].copy_from_slice(&description_words(o.description));
+            words
         }
-        OpenAnswer::Refused(r) => open_refusal(r),
+        Err(r) => refusal_words(r),
     }
 }
 
-fn channel_refusal(r: Refusal) -> [usize; CHANNEL_WORDS]
-    ensures { result ≡ padded channel_length (row_of r) }
+#[tactic(auto, unfolding(crate::specs::Answers::color_words))]
+fn color_words(color: Option<[u8; 3]>) -> [usize; 4]
+    ensures { result ≡ color_words color }
 {
-    let row = r.numbers();
-    let n = row.numbers;
-    [n[0], n[1], n[2], n[3], n[4], 0, 0, 0]
-}
-
-fn color_words(c: Color) -> [usize; 4]
-    ensures { result ≡ color_words (color_of c) }
-{
-    match c {
-        Color::Absent => [0, 0, 0, 0],
-        Color::Rgb(r, g, b) => [1, r as usize, g as usize, b as usize],
+    match color {
+        None => [0; 4],
+        Some(rgb) => [1, rgb[0] as usize, rgb[1] as usize, rgb[2] as usize],
     }
 }
 
-fn name_words(n: Name) -> [usize; 2]
-    ensures { result ≡ name_words (name_of n) }
+#[tactic(auto, unfolding(crate::specs::Answers::name_words))]
+fn name_words(name: Option<usize>) -> [usize; 2]
+    ensures { result ≡ name_words name }
 {
-    match n {
-        Name::Absent => [0, 0],
-        Name::Length(len) => [1, len],
+    match name {
+        None => [0, 0],
+        Some(len) => [1, len],
     }
 }
 
-pub fn channel_words(a: ChannelAnswer) -> [usize; CHANNEL_WORDS]
-    ensures { result ≡ channel_words (Channel.answer_of a) }
+#[tactic(auto, unfolding(crate::specs::Answers::color_words, crate::specs::Answers::name_words))]
+pub fn channel_words(a: Result<ChannelMeta, Refusal>) -> [usize; CHANNEL_WORDS]
+    ensures { result ≡ channel_words (answer_by meta_of a) }
 {
     match a {
-        ChannelAnswer::Found(m) => {
-            let color = m.color;
-            let name = m.name;
-            let c = color_words(color);
-            let n = name_words(name);
-            [0, c[0], c[1], c[2], c[3], n[0], n[1], 0]
+        Ok(m) => {
+            let [stated, red, green, blue] = color_words(m.color);
+            let [named, len] = name_words(m.name);
+            [0, stated, red, green, blue, named, len, 0]
         }
-        ChannelAnswer::Refused(r) => channel_refusal(r),
+        Err(r) => refusal_words(r),
     }
 }
 
-fn picture_refusal(r: Refusal) -> [usize; PICTURE_WORDS]
-    ensures { result ≡ padded picture_length (row_of r) }
-{
-    let row = r.numbers();
-    let n = row.numbers;
-    [n[0], n[1], n[2], n[3], n[4]]
-}
-
-pub fn picture_words(a: PictureAnswer) -> [usize; PICTURE_WORDS]
-    ensures { result ≡ picture_words (Picture.answer_of a) }
+pub fn picture_words(a: Result<Picture, Refusal>) -> [usize; PICTURE_WORDS]
+    ensures { result ≡ picture_words (answer_by picture_of a) }
 {
     match a {
-        PictureAnswer::Read(p) => [0, p.height, p.width, p.bytes, 0],
-        PictureAnswer::Refused(r) => picture_refusal(r),
+        Ok(p) => [0, p.height, p.width, p.bytes, 0],
+        Err(r) => refusal_words(r),
     }
 }

@@ -1,24 +1,26 @@
 // A calibration as five words of a description: written, and read back.
-ghost use Rattle.std.specs.Prelude.{◌≡◌};
+ghost use Rattle.std.specs.Prelude.{◌≡◌, Some};
+ghost use Rattle.lsm_format.specs.Code.{answer_of, answer_by};
 ghost use Rattle.calibration.specs.Calibrated.{step_of, calibration_of};
 ghost use Rattle.lsm_words.specs.Calibration.{float_word, step_words, size_words};
 ghost use Rattle.lsm_words.specs.Calibration.{float_by, step_by, sized_by, size_by};
-ghost use Rattle.lsm_words.specs.Code.{float_answer_of, step_answer_of, size_answer_of};
 
 use calibration::{Calibration, ZStep};
 use lsm_format::error::Refusal;
 
 // The bits of an f32. A NaN has no pattern of its own; none is ever in a description that opening gives.
+#[tactic(auto, using(crate::proofs::Calibrations::nan_word, crate::proofs::Calibrations::word_small))]
 fn float_word(x: f32) -> usize
     ensures { result ≡ float_word x }
 {
-    if x != x {
+    if x.is_nan() {
         return 0x7fc0_0000;
     }
-    f32::to_bits(x) as usize
+    x.to_bits() as usize
 }
 
 // What became of the Z step, and its bits.
+#[tactic(auto, unfolding(crate::specs::Calibration::step_words))]
 fn step_words(z: ZStep) -> [usize; 2]
     ensures { result ≡ step_words (step_of z) }
 {
@@ -30,94 +32,72 @@ fn step_words(z: ZStep) -> [usize; 2]
     }
 }
 
-pub(crate) fn size_words(s: Calibration) -> [usize; 5]
-    ensures { result ≡ size_words (calibration_of s) }
+#[tactic(auto, unfolding(crate::specs::Calibration::size_words))]
+pub(crate) fn size_words(size: Option<Calibration>) -> [usize; 5]
+    ensures { result ≡ size_words (calibration_of size) }
 {
-    match s {
-        Calibration::Uncalibrated => [0, 0, 0, 0, 0],
-        Calibration::Sized { x, y, z } => {
-            let step = step_words(z);
-            [1, float_word(x), float_word(y), step[0], step[1]]
+    match size {
+        None => [0; 5],
+        Some(s) => {
+            let [step, um] = step_words(s.z);
+            [1, float_word(s.x), float_word(s.y), step, um]
         }
     }
 }
 
 // ---- and back
 
-#[derive(Clone, Copy)]
-pub(crate) enum FloatAnswer {
-    Value(f32),
-    Refused(Refusal),
-}
-
-#[tactic(auto, using(crate::proofs::Calibrations::float_nan, crate::proofs::Calibrations::float_is, crate::proofs::Calibrations::float_number))]
-fn float_of(word: usize) -> FloatAnswer
-    ensures { float_answer_of result ≡ float_by word }
+#[tactic(auto, using(crate::proofs::Calibrations::float_high, crate::proofs::Calibrations::float_nan, crate::proofs::Calibrations::float_is, crate::proofs::Calibrations::float_number))]
+fn float_of(word: usize) -> Result<f32, Refusal>
+    ensures { answer_of result ≡ float_by word }
 {
     if 0xffff_ffff < word {
-        return FloatAnswer::Refused(Refusal::Decode);
+        return Err(Refusal::Decode);
     }
     // without its sign a NaN's pattern is above the infinity's; no float is made of it
     if 0x7f80_0000 < (word & 0x7fff_ffff) {
-        return FloatAnswer::Refused(Refusal::Decode);
+        return Err(Refusal::Decode);
     }
-    FloatAnswer::Value(f32::from_bits(word as u32))
+    Ok(f32::from_bits(word as u32))
 }
 
-#[derive(Clone, Copy)]
-pub(crate) enum StepAnswer {
-    Step(ZStep),
-    Refused(Refusal),
-}
-
-fn step_of(choice: usize, bits: usize) -> StepAnswer
-    ensures { step_answer_of result ≡ step_by choice bits }
+#[tactic(auto, unfolding(crate::specs::Calibration::step_by, crate::specs::Calibration::chosen, lsm_format::specs::Answer::bind))]
+fn step_of(choice: usize, bits: usize) -> Result<ZStep, Refusal>
+    ensures { answer_by step_of result ≡ step_by choice bits }
 {
-    if 3 < choice {
-        return StepAnswer::Refused(Refusal::Decode);
-    }
-    if choice == 1 {
-        return StepAnswer::Step(ZStep::Absent);
-    }
-    match float_of(bits) {
-        FloatAnswer::Value(um) => match choice {
-            0 => StepAnswer::Step(ZStep::Used(um)),
-            2 => StepAnswer::Step(ZStep::Placeholder(um)),
-            _ => StepAnswer::Step(ZStep::TooLarge(um)),
-        },
-        FloatAnswer::Refused(r) => StepAnswer::Refused(r),
+    match choice {
+        0 => Ok(ZStep::Used(float_of(bits)?)),
+        1 => Ok(ZStep::Absent),
+        2 => Ok(ZStep::Placeholder(float_of(bits)?)),
+        3 => Ok(ZStep::TooLarge(float_of(bits)?)),
+        _ => Err(Refusal::Decode),
     }
 }
 
-#[derive(Clone, Copy)]
-pub(crate) enum SizeAnswer {
-    Size(Calibration),
-    Refused(Refusal),
-}
-
-fn sized_of(x: usize, y: usize, choice: usize, bits: usize) -> SizeAnswer
-    ensures { size_answer_of result ≡ sized_by x y choice bits }
+#[tactic(auto, unfolding(crate::specs::Calibration::sized_by, lsm_format::specs::Answer::bind))]
+fn sized_of(x: usize, y: usize, choice: usize, bits: usize) -> Result<Calibration, Refusal>
+    ensures { answer_by (λ s. calibration_of (Some s)) result ≡ sized_by x y choice bits }
 {
-    let x = match float_of(x) {
-        FloatAnswer::Value(x) => x,
-        FloatAnswer::Refused(r) => return SizeAnswer::Refused(r),
-    };
-    let y = match float_of(y) {
-        FloatAnswer::Value(y) => y,
-        FloatAnswer::Refused(r) => return SizeAnswer::Refused(r),
-    };
-    match step_of(choice, bits) {
-        StepAnswer::Step(z) => SizeAnswer::Size(Calibration::Sized { x, y, z }),
-        StepAnswer::Refused(r) => SizeAnswer::Refused(r),
-    }
+    Ok(Calibration {
+        x: float_of(x)?,
+        y: float_of(y)?,
+        z: step_of(choice, bits)?,
+    })
 }
 
-pub(crate) fn size_of(stated: usize, x: usize, y: usize, choice: usize, bits: usize) -> SizeAnswer
-    ensures { size_answer_of result ≡ size_by stated x y choice bits }
+#[tactic(auto, unfolding(crate::specs::Calibration::size_by, crate::specs::Calibration::chosen, lsm_format::specs::Answer::bind))]
+pub(crate) fn size_of(
+    stated: usize,
+    x: usize,
+    y: usize,
+    choice: usize,
+    bits: usize,
+) -> Result<Option<Calibration>, Refusal>
+    ensures { answer_by calibration_of result ≡ size_by stated x y choice bits }
 {
     match stated {
-        0 => SizeAnswer::Size(Calibration::Uncalibrated),
-        1 => sized_of(x, y, choice, bits),
-        _ => SizeAnswer::Refused(Refusal::Decode),
+        0 => Ok(None),
+        1 => Ok(Some(sized_of(x, y, choice, bits)?)),
+        _ => Err(Refusal::Decode),
     }
 }

@@ -1,8 +1,8 @@
 -- `lsm_words::description::description_words` meets its contract: the words are the definition's, by what the four callees ensure
--- of theirs (`description_is`). The rest is that each word read is inside its array. Assumes nothing.
+-- of theirs (`description_is`). Assumes nothing.
 use Rattle.lsm_description.specs.Code.{description_of}
 use Rattle.lsm_words.proofs.Descriptions.{description_is}
 use Rattle.lsm_words.proofs.description.description_words.Goals as goal
 
 pub returns : goal.returns
-returns c = description_is (description_of c.args.d) c.order_word.ensures c.kind_word.ensures c.size_words-size.ensures c.block_words-block.ensures
+returns c = description_is (description_of c.args.d) c.order_word.ensures c.kind_word.ensures c.size_words.ensures c.block_words.ensures
