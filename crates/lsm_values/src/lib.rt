@@ -98,8 +98,7 @@ fn value_place(buf: &[u8], size: usize, entry: Entry, e: Endian) -> Result<usize
 // The first value of an entry whose type is read as a number of this width.
 #[tactic(auto, unfolding(lsm_format::specs::Answer::bind), using(crate::proofs::Laws::scalar_asked))]
 fn first_number(buf: &[u8], width: Width, entry: Entry, e: Endian) -> Result<u32, Refusal>
-    requires { integer_size entry.ty ≡ Some (bytes_of width) }
-    ensures { answer_of result ≡ scalar (order_of e) buf.now entry.ty entry.count entry.off }
+    ensures { integer_size entry.ty ≡ Some (bytes_of width) → answer_of result ≡ scalar (order_of e) buf.now entry.ty entry.count entry.off }
 {
     if entry.count == 0 {
         return Err(Refusal::Decode);
@@ -111,8 +110,7 @@ fn first_number(buf: &[u8], width: Width, entry: Entry, e: Endian) -> Result<u32
 // An entry whose type is no number is refused, whatever its size and count; but the place of its values is read before that.
 #[tactic(auto, unfolding(lsm_format::specs::Answer::bind), using(crate::proofs::Laws::scalar_asked, lsm_format::proofs::Directory::type_size_small))]
 fn no_number(buf: &[u8], entry: Entry, e: Endian) -> Result<u32, Refusal>
-    requires { integer_size entry.ty ≡ None }
-    ensures { answer_of result ≡ scalar (order_of e) buf.now entry.ty entry.count entry.off }
+    ensures { integer_size entry.ty ≡ None → answer_of result ≡ scalar (order_of e) buf.now entry.ty entry.count entry.off }
 {
     value_place(buf, tiff_type_size(entry.ty), entry, e)?;
     Err(Refusal::Decode)
