@@ -212,7 +212,7 @@ pub fn read_entry(buf: &[u8], at: usize, e: Endian) -> Result<Value, Refusal>
 pub fn directory_ends(buf: &[u8], place: usize, e: Endian) -> Result<Ends, Refusal>
     ensures { answer_by ends_of result ≡ Rule.ends (order_of e) buf.now place }
 {
-    let entries = read_u16(buf, place, e)? as usize;
+    let entries = usize::from(read_u16(buf, place, e)?);
     let next = read_u32(buf, place + 2 + 12 * entries, e)? as usize;
     Ok(Ends { entries, next })
 }
