@@ -1,7 +1,7 @@
 // Pictures through the C interface.
 ghost use Rattle.lsm_format.specs.Code.{rect_of, coordinate_of, answer_by};
 ghost use Rattle.lsm_format.specs.Rectangle.{coordinate};
-ghost use Rattle.lsm_region.specs.Code.{picture_of, Pictured};
+ghost use Rattle.lsm_region.specs.Code.{shape_of_picture, Pictured};
 ghost use Rattle.lsm_c.specs.Calls.{plane_by, region_by, PicturedBy};
 
 use lsm_format::error::Refusal;
@@ -18,7 +18,7 @@ fn plane_by(
     co: Coordinate,
     out: &mut [u8],
 ) -> Result<Picture, Refusal>
-    ensures { Pictured (plane_by description.now table.now file.now (coordinate_of co)) out.old out.new (answer_by picture_of result) }
+    ensures { Pictured (plane_by description.now table.now file.now (coordinate_of co)) out.old out.new (answer_by shape_of_picture result) }
 {
     let d = read_description(description)?;
     plane(file, d, table, co, out)
@@ -32,7 +32,7 @@ fn region_by(
     rect: PixelRect,
     out: &mut [u8],
 ) -> Result<Picture, Refusal>
-    ensures { Pictured (region_by description.now table.now file.now (coordinate_of co) (rect_of rect)) out.old out.new (answer_by picture_of result) }
+    ensures { Pictured (region_by description.now table.now file.now (coordinate_of co) (rect_of rect)) out.old out.new (answer_by shape_of_picture result) }
 {
     let d = read_description(description)?;
     region(file, d, table, co, rect, out)

@@ -22,10 +22,9 @@ const ROOM: usize = 6_000_014;
 
 // Leads each directory to the next, as long as another one has room. The memory holds zeros where no pointer stands.
 fn link(directories: &mut [u8])
-    requires { 6 ≤ length directories.old }
     ensures { length directories.new ≡ length directories.old }
 {
-    let last = directories.len() - DIRECTORY;
+    let last = directories.len().saturating_sub(DIRECTORY);
     let mut next: u32 = 8;
     for directory in directories[..last].chunks_exact_mut(DIRECTORY) {
         next = next.saturating_add(6);
@@ -35,7 +34,7 @@ fn link(directories: &mut [u8])
 
 // Makes the file of the memory, opens it, and prints the number that opening returns.
 fn tell<W: Write>(out: &mut W, name: &str, file: &mut [u8]) -> io::Result<()>
-    requires { 14 ≤ length file.old }
+    requires { 8 ≤ length file.old }
     ensures { length file.new ≡ length file.old }
 {
     let (header, directories) = file.split_at_mut(HEADER.len());
@@ -46,12 +45,11 @@ fn tell<W: Write>(out: &mut W, name: &str, file: &mut [u8]) -> io::Result<()>
     writeln!(out, "{name} directories: {number}")
 }
 
-// Both files in the memory, the shorter one first.
-fn tell_both<W: Write>(out: &mut W, file: &mut [u8]) -> io::Result<()>
-    requires { 20 ≤ length file.old }
+// Both files in the memory, whose length is known from its type; the shorter one first.
+fn tell_both<W: Write>(out: &mut W, file: &mut [u8; ROOM]) -> io::Result<()>
+    ensures { length file.new ≡ length file.old }
 {
-    let shorter = file.len() - DIRECTORY;
-    tell(out, "1000000", &mut file[..shorter])?;
+    tell(out, "1000000", &mut file[..ROOM - DIRECTORY])?;
     tell(out, "1000001", file)
 }
 

@@ -6,6 +6,7 @@ use mathlib.Core.Path.{◌≡◌, refl, sym, ap, subst, ◌∙◌}
 use mathlib.Core.List.{List}
 use lib.ListN.{length}
 use Rattle.lsm_format.specs.Answer.{Result, accepted, refused}
+use Rattle.lsm_format.specs.Code.{answer_by}
 use Rattle.lsm_format.specs.Open as Rule
 use Rattle.lsm_format.specs.Open.{open_file, open_memory}
 use Rattle.lsm_format.specs.Picture.{Samples, plane, region, into, buffer_by}
@@ -16,8 +17,8 @@ use Rattle.lsm_channel_colors.specs.Code.{Looked, Seen, seen}
 use Rattle.lsm_description.specs.Code.{description_of}
 use Rattle.lsm_reader.specs.Opening.{OpenedAs, Told, told_of, opened_of}
 use Rattle.lsm_reader.specs.declared.open.Opened.{Opened}
-use Rattle.lsm_reader.specs.declared.open.OpenAnswer.{OpenAnswer}
-use Rattle.lsm_reader.specs.declared.open.OpenAnswer.TheVariants.{Opened as OpenedWith}
+use Rattle.lsm_format.specs.declared.error.Refusal.{Refusal}
+use Rattle.std.specs.Prelude.{Ok, Result as Answered}
 use Rattle.lsm_region.specs.Code.{Pictured, shape_of}
 use Rattle.lsm_overwrite.specs.Blind.{Overwritten, Held, OpensAlike, RegionAlike}
 use Rattle.lsm_overwrite.proofs.Blind.{blind, blind_rectangle}
@@ -30,7 +31,7 @@ record Gave (f lent t : List ℕ) (x : Opened) : Type 0 where
   description : description_of x.description ≡ held.opened.description
   table : t ≡ open_memory f held.lent
 
-gave_by : (f lent t : List ℕ) (x : Opened) (m : Result Rule.Opened) → open_file f (length lent) ≡ m → opened_of (OpenedWith x) ≡ told_of m → t ≡ open_memory f lent →
+gave_by : (f lent t : List ℕ) (x : Opened) (m : Result Rule.Opened) → open_file f (length lent) ≡ m → answer_by opened_of (Ok x) ≡ told_of m → t ≡ open_memory f lent →
     Gave f lent t x
 gave_by f lent t x (accepted o) e a t' =
     record { held = record { lent = lent; opened = o; gave = e }; description = ap told a; table = t' }
@@ -40,10 +41,10 @@ gave_by f lent t x (accepted o) e a t' =
     told (refused row) = description_of x.description
 gave_by f lent t x (refused row) e a t' = absurd (never a)
   where
-    never : opened_of (OpenedWith x) ≡ refused row → ⊥
+    never : answer_by opened_of (Ok x) ≡ refused row → ⊥
     never q = no_case cc
 
-gave : (f lent t : List ℕ) (x : Opened) → OpenedAs f lent t (OpenedWith x) → Gave f lent t x
+gave : (f lent t : List ℕ) (x : Opened) → OpenedAs f lent t (Ok x) → Gave f lent t x
 gave f lent t x o = gave_by f lent t x (open_file f (length lent)) refl o.answered o.memory
 
 -- ---- two calls
@@ -72,12 +73,12 @@ pictured_alike s s' before after after' a a' i b p p' =
 
 module _ (f g : List ℕ) (alike : OpensAlike f g) where
   -- `open_file`
-  pub open_file_alike : (lent t t' : List ℕ) (r r' : OpenAnswer) → OpenedAs f lent t r → OpenedAs g lent t' r' → (opened_of r' ≡ opened_of r) × (t' ≡ t)
+  pub open_file_alike : (lent t t' : List ℕ) (r r' : Answered Opened Refusal) → OpenedAs f lent t r → OpenedAs g lent t' r' → (answer_by opened_of r' ≡ answer_by opened_of r) × (t' ≡ t)
   open_file_alike lent t t' r r' o o' =
       (o'.answered ∙ ap told_of (alike.open_answer (length lent)) ∙ sym o.answered, o'.memory ∙ alike.open_leaves lent ∙ sym o.memory)
 
 -- The later calls, each with the description and the table that opening that same file gave.
-module _ (f g lent lent' t t' : List ℕ) (x y : Opened) (o : OpenedAs f lent t (OpenedWith x)) (o' : OpenedAs g lent' t' (OpenedWith y)) where
+module _ (f g lent lent' t t' : List ℕ) (x y : Opened) (o : OpenedAs f lent t (Ok x)) (o' : OpenedAs g lent' t' (Ok y)) where
   -- `region`
   region_by_lem : (co : Coordinate) (r : Rect) (alike : RegionAlike f g co r) (before after after' : List ℕ) (a a' : Result (ℕ × ℕ × ℕ)) →
       Pictured (region (description_of x.description) t f co r) before after a →

@@ -14,15 +14,16 @@ use lib.Seq.{take_at, drop_at}
 use borrow.Author.Tests.{leb-true, leb-false}
 use Rattle.lsm_format.specs.Answer.{Result, accepted, refused, bind, need, decode}
 use Rattle.lsm_format.specs.Rectangle.{Rect, Coordinate}
+use Rattle.lsm_format.specs.Code.{answer_by}
 use Rattle.lsm_format.specs.Open.{Description}
 use Rattle.lsm_format.specs.Picture.{Samples, whole_picture, plane, region, into, buffer_by}
 use Rattle.lsm_format.proofs.Lent.{lend_room, lend_short, filled_room}
 use Rattle.lsm_format.proofs.Picture.{bind_then}
 use Rattle.lsm_format.proofs.Apart.{no_case}
-use Rattle.lsm_region.specs.Code.{Pictured, shape_of, answer_of}
+use Rattle.lsm_region.specs.Code.{Pictured, shape_of, shape_of_picture}
 use Rattle.lsm_region.specs.declared.Picture.{Picture}
-use Rattle.lsm_region.specs.declared.PictureAnswer.{PictureAnswer}
-use Rattle.lsm_region.specs.declared.PictureAnswer.TheVariants.{Read}
+use Rattle.lsm_format.specs.declared.error.Refusal.{Refusal}
+use Rattle.std.specs.Prelude.{Ok, Result as Answered}
 use Rattle.lsm_words.specs.Calibration.{chosen, float_by, step_by, sized_by, size_by}
 use Rattle.lsm_words.specs.Description.{order_by, kind_by, block_by, described_by}
 use Rattle.lsm_words.specs.Answers.{picture_words}
@@ -91,14 +92,14 @@ module _ (d : Description) (t f : List ℕ) (co : Coordinate) (r : Rect) where
       (λ l k. rw (a, b, n) (filled_by x (exact x k) before after l (m ∙ ap (λ (o : Result Samples). buffer_by o before) k))))
 
   -- `region`
-  pub region_exact : (before after : List ℕ) (p : Picture) → Pictured (region d t f co r) before after (answer_of (Read p))
+  pub region_exact : (before after : List ℕ) (p : Picture) → Pictured (region d t f co r) before after (answer_by shape_of_picture (Ok p))
       → Delivered d t f co r before after p.height p.width p.bytes
   region_exact before after p k =
       delivered (region d t f co r) (each_rectangle d t f co r) before after p.height p.width p.bytes k.answered k.memory
 
 -- `plane`
 pub plane_exact : (d : Description) (t f : List ℕ) (co : Coordinate) (before after : List ℕ) (p : Picture)
-    → Pictured (plane d t f co) before after (answer_of (Read p))
+    → Pictured (plane d t f co) before after (answer_by shape_of_picture (Ok p))
     → Delivered d t f co (whole_picture d) before after p.height p.width p.bytes
 plane_exact d t f co before after p k =
     delivered d t f co (whole_picture d) (plane d t f co) (each_plane d t f co) before after p.height p.width p.bytes k.answered k.memory
@@ -118,9 +119,9 @@ taken_shape (refused row) (inr e) = inr (e.0, ap (λ (l : List ℕ). refused l) 
     same a b e = cc
 
 -- `region` where `plane` accepts, whatever the two buffers
-pub region_inside : (d : Description) (t f : List ℕ) (co : Coordinate) (r : Rect) (before after before' after' : List ℕ) (a a' : PictureAnswer)
-    → Pictured (plane d t f co) before after (answer_of a) → Accepted (answer_of a) → Inside d.dims r
-    → Pictured (region d t f co r) before' after' (answer_of a') → Accepted (answer_of a')
+pub region_inside : (d : Description) (t f : List ℕ) (co : Coordinate) (r : Rect) (before after before' after' : List ℕ) (a a' : Answered Picture Refusal)
+    → Pictured (plane d t f co) before after (answer_by shape_of_picture a) → Accepted (answer_by shape_of_picture a) → Inside d.dims r
+    → Pictured (region d t f co r) before' after' (answer_by shape_of_picture a') → Accepted (answer_by shape_of_picture a')
 region_inside d t f co r before after before' after' a a' p u i q =
     rw q.answered
     (shape_taken _

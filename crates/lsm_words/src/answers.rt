@@ -3,7 +3,7 @@ ghost use Rattle.std.specs.Prelude.{◌≡◌, ◌≤◌, ◌∷◌};
 ghost use Rattle.lsm_format.specs.Code.{row_of, answer_by};
 ghost use Rattle.lsm_channel_colors.specs.Code.{meta_of};
 ghost use Rattle.lsm_reader.specs.Opening.{opened_of};
-ghost use Rattle.lsm_region.specs.Code.{picture_of};
+ghost use Rattle.lsm_region.specs.Code.{shape_of_picture};
 ghost use Rattle.lsm_words.specs.Answers.{padded, open_words, color_words, name_words, channel_words, picture_words};
 
 use crate::description::{DESCRIPTION_WORDS, description_words};
@@ -82,7 +82,7 @@ pub fn channel_words(a: Result<ChannelMeta, Refusal>) -> [usize; CHANNEL_WORDS]
 }
 
 pub fn picture_words(a: Result<Picture, Refusal>) -> [usize; PICTURE_WORDS]
-    ensures { result ≡ picture_words (answer_by picture_of a) }
+    ensures { result ≡ picture_words (answer_by shape_of_picture a) }
 {
     match a {
         Ok(p) => [0, p.height, p.width, p.bytes, 0],
