@@ -1,70 +1,46 @@
 // The CZ-LSM-Info block.
-ghost use Rattle.std.specs.Prelude.{◌≡◌, true, ℕ, ◌≤◌};
+ghost use Rattle.std.specs.Prelude.{◌≡◌, true, ◌≤◌, length};
 
-use crate::answer::{Answer, agrees, refused};
+use crate::answer::refused;
 use crate::ground::{bits_of, order};
 use crate::voxels::calibrated;
-use lsm_cz_info::{CzAnswer, CzInfo, CzTag, parse};
-use lsm_format::types::ChannelBlock;
-use vectors::text::Row;
+use lsm_cz_info::{CzInfo, parse};
+use lsm_format::types::CzTag;
 
-// Where the channel block stands, or 2^32.
-fn place(b: ChannelBlock) -> usize
-    ensures value { b ≡ ChannelBlock.Absent → result ≡ 4294967296 }
-    ensures by_index { (at : ℕ) → b ≡ ChannelBlock.At at → result ≡ at }
+// Whether the block's contents are what is said: 0, the dimensions, the channel block's place or 2^32, and the calibration.
+fn info(said: &[usize], i: CzInfo) -> bool
+    ensures { result ≡ true → 10 ≤ length said.now }
 {
-    match b {
-        ChannelBlock::Absent => 0x1_0000_0000,
-        ChannelBlock::At(at) => at,
-    }
-}
-
-fn info(i: CzInfo) -> Answer
-    ensures { result.len ≤ 16 }
-{
-    let p = bits_of(i.dim_p);
-    let m = bits_of(i.dim_m);
-    let block = i.channel_colors_offset;
-    let at = place(block);
-    let size = i.calibration;
-    let a = Answer {
-        numbers: [
-            0,
-            i.dim_x as usize,
-            i.dim_y as usize,
-            i.dim_z as usize,
-            i.dim_channels as usize,
-            i.dim_time as usize,
-            p,
-            m,
-            at,
-            0,
-            0,
-            0,
-            0,
-            0,
-            0,
-            0,
-        ],
-        len: 9,
-    };
-    calibrated(a, size)
-}
-
-// Whether reading the block gives the line's answer.
-pub fn block(row: Row, file: &[u8]) -> bool
-    ensures { result ≡ true → 3 ≤ row.count }
-{
-    if row.count < 3 {
+    let Some((front, size)) = said.split_at_checked(9) else {
         return false;
-    }
-    let n = row.numbers;
-    let tag = CzTag {
-        offset: n[1],
-        declared_bytes: n[2],
     };
-    match parse(file, tag, order(n[0])) {
-        CzAnswer::Info(i) => agrees(row, 3, info(i)),
-        CzAnswer::Refused(r) => agrees(row, 3, refused(r)),
+    let numbers = [
+        0,
+        i.dim_x as usize,
+        i.dim_y as usize,
+        i.dim_z as usize,
+        i.dim_channels as usize,
+        i.dim_time as usize,
+        bits_of(i.dim_p),
+        bits_of(i.dim_m),
+        i.channel_colors_offset.unwrap_or(0x1_0000_0000),
+    ];
+    front == numbers.as_slice() && calibrated(size, i.calibration)
+}
+
+// The order, the block's place and its declared bytes, and what reading it in a file answers.
+pub fn block(numbers: &[usize], file: &[u8]) -> bool
+    ensures { result ≡ true → 3 ≤ length numbers.now }
+{
+    let [e, offset, declared_bytes, said @ ..] = numbers else {
+        return false;
+    };
+    let tag = CzTag {
+        offset: *offset,
+        declared_bytes: *declared_bytes,
+    };
+    match parse(file, tag, order(*e)) {
+        Ok(i) => info(said, i),
+        Err(r) => refused(said, r),
     }
 }

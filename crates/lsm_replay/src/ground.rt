@@ -1,12 +1,11 @@
-// The byte readers, sizes, rectangles and scenes.
-ghost use Rattle.std.specs.Prelude.{◌≡◌, true, ◌-◌, ◌≤◌, ◌<◌, pos, negsuc};
+// The byte readers, sizes, rectangles and scenes. A line has the numbers that say what is asked, and then the answer.
+ghost use Rattle.std.specs.Prelude.{◌≡◌, true, ◌-◌, ◌≤◌, ◌<◌, length, pos, negsuc};
 
-use crate::answer::{Answer, accepted, agrees, one, refused};
-use lsm_bytes::{F64Bits, I32, U8, U16, U32, read_f64_bits, read_i32, read_u8, read_u16, read_u32};
-use lsm_format::error::Check;
-use lsm_format::types::{DType, Dims5, Endian, PixelRect, PlaneBytes, checked_region};
-use lsm_positions::{ExpectedPages, LayoutAnswer, LsmLayout, PageIndex};
-use vectors::text::Row;
+use crate::answer::{refused, told};
+use lsm_bytes::{read_f64_bits, read_i32, read_u8, read_u16, read_u32};
+use lsm_format::error::Refusal;
+use lsm_format::types::{Coordinate, DType, Dims5, Endian, PixelRect, checked_region};
+use lsm_positions::LsmLayout;
 
 pub fn order(n: usize) -> Endian
     ensures { (n ≡ 0 → result ≡ Endian.Little) × (0 < n → result ≡ Endian.Big) }
@@ -30,177 +29,156 @@ fn kind(n: usize) -> DType
 pub fn bits_of(n: i32) -> usize
     ensures { result < 4294967296 }
 {
-    if n < 0 {
-        return ((n as i64) + 0x1_0000_0000) as usize;
-    }
-    n as usize
+    n.cast_unsigned() as usize
 }
 
-fn low(n: usize) -> u32
-    ensures { n < 4294967296 → result ≡ n }
+fn signed(n: usize) -> i32
+    ensures low { n < 2147483648 → result ≡ pos n }
+    ensures high { 2147483648 ≤ n → n < 4294967296 → result ≡ negsuc (4294967295 - n) }
 {
-    (n % 0x1_0000_0000) as u32
+    ((n % 0x1_0000_0000) as u32).cast_signed()
 }
 
-fn of_bits(bits: u32) -> i32
-    ensures value { bits < 2147483648 → result ≡ pos bits }
-    ensures value_2 { 2147483648 ≤ bits → result ≡ negsuc (4294967295 - bits) }
+// What stands at a place of a buffer: the type, the order and the place.
+pub fn read(numbers: &[usize], bytes: &[u8]) -> bool
+    ensures { result ≡ true → 3 ≤ length numbers.now }
 {
-    if bits < 0x8000_0000 {
-        bits as i32
-    } else {
-        ((bits as i64) - 0x1_0000_0000) as i32
-    }
+    let [what, e, off, said @ ..] = numbers else {
+        return false;
+    };
+    let off = *off;
+    let e = order(*e);
+    let number = match *what {
+        0 => read_u8(bytes, off).map(usize::from),
+        1 => read_u16(bytes, off, e).map(usize::from),
+        2 => read_u32(bytes, off, e).map(|n| n as usize),
+        3 => read_i32(bytes, off, e).map(bits_of),
+        _ => read_f64_bits(bytes, off, e).map(|n| n as usize),
+    };
+    told(said, number)
 }
 
-fn read(buf: &[u8], what: usize, off: usize, e: Endian) -> Answer
-    ensures { result.len ≤ 16 }
+// The bytes of a picture: whether without the limit, the size and the kind.
+pub fn size(numbers: &[usize]) -> bool
+    ensures { result ≡ true → 4 ≤ length numbers.now }
 {
-    match what {
-        0 => match read_u8(buf, off) {
-            U8::Value(n) => accepted(n as usize),
-            U8::Parse => one(1),
-        },
-        1 => match read_u16(buf, off, e) {
-            U16::Value(n) => accepted(n as usize),
-            U16::Parse => one(1),
-        },
-        2 => match read_u32(buf, off, e) {
-            U32::Value(n) => accepted(n as usize),
-            U32::Parse => one(1),
-        },
-        3 => match read_i32(buf, off, e) {
-            I32::Value(n) => accepted(bits_of(n)),
-            I32::Parse => one(1),
-        },
-        _ => match read_f64_bits(buf, off, e) {
-            F64Bits::Value(n) => accepted(n as usize),
-            F64Bits::Parse => one(1),
-        },
-    }
-}
-
-fn size(limited: bool, x: usize, y: usize, dtype: DType) -> Answer
-    ensures { result.len ≤ 16 }
-{
+    let [unlimited, x, y, dtype, said @ ..] = numbers else {
+        return false;
+    };
     let dims = Dims5 {
         t: 1,
         c: 1,
         z: 1,
-        y,
-        x,
+        y: *y,
+        x: *x,
     };
-    let bytes = if limited {
+    let dtype = kind(*dtype);
+    let bytes = if *unlimited == 0 {
         dims.checked_plane_bytes(dtype)
     } else {
         dims.plane_bytes_no_ceiling(dtype)
     };
-    match bytes {
-        PlaneBytes::Bytes(n) => accepted(n),
-        PlaneBytes::Refused(r) => refused(r),
-    }
+    told(said, bytes)
 }
 
-fn region(n: [usize; 20]) -> Answer
-    ensures { result.len ≤ 16 }
+// A coordinate and a rectangle of a picture.
+pub fn region(numbers: &[usize]) -> bool
+    ensures { result ≡ true → 13 ≤ length numbers.now }
 {
-    let dims = Dims5 {
-        t: n[0],
-        c: n[1],
-        z: n[2],
-        y: n[3],
-        x: n[4],
-    };
-    let rect = PixelRect::new(n[9], n[10], n[11], n[12]);
-    match checked_region(dims, n[5], n[6], n[7], n[8], rect) {
-        Check::Accepted => one(0),
-        Check::Refused(r) => refused(r),
-    }
-}
-
-fn empty(rect: PixelRect) -> Answer
-    ensures { result.len ≤ 16 }
-{
-    if rect.is_empty() {
-        return accepted(1);
-    }
-    accepted(0)
-}
-
-fn scenes(p: usize, m: usize, t: usize, z: usize) -> Answer
-    ensures { result.len ≤ 16 }
-{
-    match LsmLayout::new(of_bits(low(p)), of_bits(low(m)), t, z) {
-        LayoutAnswer::Layout(l) => accepted(l.scene_count()),
-        LayoutAnswer::Refused(r) => refused(r),
-    }
-}
-
-fn pages(p: usize, m: usize, t: usize, z: usize) -> Answer
-    ensures { result.len ≤ 16 }
-{
-    match LsmLayout::new(of_bits(low(p)), of_bits(low(m)), t, z) {
-        LayoutAnswer::Layout(l) => match l.expected_pages() {
-            ExpectedPages::Pages(n) => accepted(n),
-            ExpectedPages::Refused(r) => refused(r),
-        },
-        LayoutAnswer::Refused(r) => refused(r),
-    }
-}
-
-// The page of a scene's `point` and `plane`. No page is 6 here, as whoever asks makes of it.
-fn page(p: usize, m: usize, t: usize, z: usize, scene: usize, point: usize, plane: usize) -> Answer
-    ensures { result.len ≤ 16 }
-{
-    match LsmLayout::new(of_bits(low(p)), of_bits(low(m)), t, z) {
-        LayoutAnswer::Layout(l) => match l.page_index(scene, point, plane) {
-            PageIndex::Page(n) => accepted(n),
-            PageIndex::Outside => one(6),
-        },
-        LayoutAnswer::Refused(r) => refused(r),
-    }
-}
-
-// How many numbers of a line say what is asked; 20 for a kind that isn't there.
-fn asked(letter: u8) -> usize
-    ensures { (3 ≤ result) × (result ≤ 20) }
-{
-    match letter {
-        b'b' => 3,
-        b's' => 4,
-        b'r' => 13,
-        b'm' => 4,
-        b'l' => 4,
-        b'e' => 4,
-        b'p' => 7,
-        _ => 20,
-    }
-}
-
-// What the ported functions answer.
-fn answer_to(letter: u8, n: [usize; 20], bytes: &[u8]) -> Answer
-    ensures { result.len ≤ 16 }
-{
-    match letter {
-        b'b' => read(bytes, n[0], n[2], order(n[1])),
-        b's' => size(n[0] == 0, n[1], n[2], kind(n[3])),
-        b'r' => region(n),
-        b'm' => empty(PixelRect::new(n[0], n[1], n[2], n[3])),
-        b'l' => scenes(n[0], n[1], n[2], n[3]),
-        b'e' => pages(n[0], n[1], n[2], n[3]),
-        _ => page(n[0], n[1], n[2], n[3], n[4], n[5], n[6]),
-    }
-}
-
-// Whether the answer is the line's.
-pub fn ground(row: Row, bytes: &[u8]) -> bool
-    ensures { result ≡ true → 3 < row.count }
-{
-    let letter = row.kind;
-    let from = asked(letter);
-    if row.count <= from {
+    let [
+        t_size,
+        c_size,
+        z_size,
+        y_size,
+        x_size,
+        scene,
+        t,
+        c,
+        z,
+        x,
+        y,
+        w,
+        h,
+        said @ ..,
+    ] = numbers
+    else {
         return false;
+    };
+    let dims = Dims5 {
+        t: *t_size,
+        c: *c_size,
+        z: *z_size,
+        y: *y_size,
+        x: *x_size,
+    };
+    let co = Coordinate {
+        scene: *scene,
+        t: *t,
+        c: *c,
+        z: *z,
+    };
+    match checked_region(dims, co, PixelRect::new(*x, *y, *w, *h)) {
+        Ok(()) => said == [0].as_slice(),
+        Err(r) => refused(said, r),
     }
-    let numbers = row.numbers;
-    agrees(row, from, answer_to(letter, numbers, bytes))
+}
+
+// Whether a rectangle is empty.
+pub fn empty(numbers: &[usize]) -> bool
+    ensures { result ≡ true → 4 ≤ length numbers.now }
+{
+    let [x, y, w, h, said @ ..] = numbers else {
+        return false;
+    };
+    let empty = PixelRect::new(*x, *y, *w, *h).is_empty();
+    told(said, Ok(usize::from(empty)))
+}
+
+fn layout(p: usize, m: usize, t: usize, z: usize) -> Result<LsmLayout, Refusal> {
+    LsmLayout::new(signed(p), signed(m), t, z)
+}
+
+// The scenes of a layout.
+pub fn scenes(numbers: &[usize]) -> bool
+    ensures { result ≡ true → 4 ≤ length numbers.now }
+{
+    let [p, m, t, z, said @ ..] = numbers else {
+        return false;
+    };
+    told(said, layout(*p, *m, *t, *z).map(LsmLayout::scene_count))
+}
+
+// The pages of a layout.
+pub fn pages(numbers: &[usize]) -> bool
+    ensures { result ≡ true → 4 ≤ length numbers.now }
+{
+    let [p, m, t, z, said @ ..] = numbers else {
+        return false;
+    };
+    told(
+        said,
+        layout(*p, *m, *t, *z).and_then(LsmLayout::expected_pages),
+    )
+}
+
+// The page of a scene's time point and plane. No page is 6 here, as whoever asks makes of it.
+pub fn page(numbers: &[usize]) -> bool
+    ensures { result ≡ true → 7 ≤ length numbers.now }
+{
+    let [p, m, t_size, z_size, scene, t, z, said @ ..] = numbers else {
+        return false;
+    };
+    let co = Coordinate {
+        scene: *scene,
+        t: *t,
+        c: 0,
+        z: *z,
+    };
+    match layout(*p, *m, *t_size, *z_size) {
+        Ok(l) => match l.page_index(co) {
+            Some(n) => told(said, Ok(n)),
+            None => said == [6].as_slice(),
+        },
+        Err(r) => refused(said, r),
+    }
 }

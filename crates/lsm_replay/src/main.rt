@@ -3,51 +3,61 @@
 // are wrong on purpose (tools/wrong_lines.py).
 #![tactic(auto)]
 
-ghost use Rattle.std.specs.Prelude.{◌≡◌, true, ◌<◌, ◌≤◌, length};
+ghost use Rattle.std.specs.Prelude.{◌≡◌, true, ◌+◌, ◌≤◌, length};
 
-use crate::cz::block;
 use buffers::{read_full, zeros};
 use std::io;
 use vectors::report::{Tally, report};
-use vectors::text::{Row, row_at};
+use vectors::text::Lines;
 
 mod answer;
 mod cz;
 mod ground;
 mod voxels;
 
-// Whether the answer is the line's. A letter that stands for nothing differs.
-fn agrees(row: Row, bytes: &[u8]) -> bool
-    ensures { result ≡ true → 3 ≤ row.count }
-{
-    if row.kind == b'c' {
-        return voxels::voxels(row);
-    }
-    if row.kind == b'z' {
-        return block(row, bytes);
-    }
-    ground::ground(row, bytes)
-}
-
-// A line: its letter, whether the answer is as it says, and where the next begins.
+// What a line asks for, by its letter.
 #[derive(Clone, Copy)]
-struct Line {
-    kind: u8,
-    agrees: bool,
-    next: usize,
+enum Kind {
+    Read,
+    Size,
+    Region,
+    Empty,
+    Scenes,
+    Pages,
+    Page,
+    Voxels,
+    Block,
 }
 
-fn line_at(text: &[u8], at: usize) -> Line
-    requires { at < length text.now }
-    ensures { (at < result.next) × (result.next ≤ length text.now) }
+fn kind_of(letter: u8) -> Option<Kind> {
+    match letter {
+        b'b' => Some(Kind::Read),
+        b's' => Some(Kind::Size),
+        b'r' => Some(Kind::Region),
+        b'm' => Some(Kind::Empty),
+        b'l' => Some(Kind::Scenes),
+        b'e' => Some(Kind::Pages),
+        b'p' => Some(Kind::Page),
+        b'c' => Some(Kind::Voxels),
+        b'z' => Some(Kind::Block),
+        _ => None,
+    }
+}
+
+// Whether the answer is the line's.
+fn agrees(kind: Kind, numbers: &[usize], bytes: &[u8]) -> bool
+    ensures { result ≡ true → 3 ≤ length numbers.now }
 {
-    let mut bytes = [0u8; 320];
-    let row = row_at(text, at, &mut bytes);
-    let len = row.len;
-    Line {
-        kind: row.kind,
-        agrees: agrees(row, &bytes[..len]),
-        next: row.next,
+    match kind {
+        Kind::Read => ground::read(numbers, bytes),
+        Kind::Size => ground::size(numbers),
+        Kind::Region => ground::region(numbers),
+        Kind::Empty => ground::empty(numbers),
+        Kind::Scenes => ground::scenes(numbers),
+        Kind::Pages => ground::pages(numbers),
+        Kind::Page => ground::page(numbers),
+        Kind::Voxels => voxels::voxels(numbers),
+        Kind::Block => cz::block(numbers, bytes),
     }
 }
 
@@ -58,24 +68,27 @@ struct Tallies {
     blocks: Tally,
 }
 
+// A letter that stands for nothing differs, and so does a line that hasn't the form.
 fn compare(text: &[u8]) -> Tallies
-    ensures cases_in_bounds { (result.plain.cases ≤ length text.now) × (result.plain.differ ≤ result.plain.cases) }
-    ensures cases_in_bounds_2 { (result.voxels.cases ≤ length text.now) × (result.voxels.differ ≤ result.voxels.cases) }
-    ensures cases_in_bounds_3 { (result.blocks.cases ≤ length text.now) × (result.blocks.differ ≤ result.blocks.cases) }
+    ensures { result.plain.cases + result.voxels.cases + result.blocks.cases ≤ length text.now }
 {
-    let mut plain = Tally::none();
-    let mut voxels = Tally::none();
-    let mut blocks = Tally::none();
-    let mut at = 0;
-    while at < text.len() {
-        let l = line_at(text, at);
-        at = l.next;
-        if l.kind == b'c' {
-            voxels = voxels.counted(l.agrees);
-        } else if l.kind == b'z' {
-            blocks = blocks.counted(l.agrees);
-        } else {
-            plain = plain.counted(l.agrees);
+    let mut plain = Tally::default();
+    let mut voxels = Tally::default();
+    let mut blocks = Tally::default();
+    for line in Lines::<20, 320>::new(text) {
+        let kind = kind_of(line.letter);
+        let same = match (kind, &line.said) {
+            (Some(kind), Some(said)) => agrees(
+                kind,
+                said.numbers.as_slice(),
+                said.bytes.as_slice(),
+            ),
+            _ => false,
+        };
+        match kind {
+            Some(Kind::Voxels) => voxels.count(same),
+            Some(Kind::Block) => blocks.count(same),
+            _ => plain.count(same),
         }
     }
     Tallies {
@@ -90,7 +103,7 @@ fn main(rt: HostRuntime) -> io::Result<()> {
     let n = read_full(&mut rt.stdin(), &mut text)?;
     let t = compare(&text[..n]);
     let mut out = rt.stdout();
-    report(&mut out, b"ground ", t.plain)?;
-    report(&mut out, b"calibration ", t.voxels)?;
-    report(&mut out, b"cz ", t.blocks)
+    report(&mut out, "ground ", t.plain)?;
+    report(&mut out, "calibration ", t.voxels)?;
+    report(&mut out, "cz ", t.blocks)
 }

@@ -1,90 +1,56 @@
 // Voxel sizes: the pixel size, the Z step and its note.
-ghost use Rattle.std.specs.Prelude.{◌≡◌, true, ◌+◌, ◌≤◌, ◌<◌};
+ghost use Rattle.std.specs.Prelude.{◌≡◌, true, false, ◌≤◌, length};
+ghost use Rattle.std.specs.Float.Ieee.{binary32, is_nan, to_bits};
 
-use crate::answer::{Answer, agrees};
+use arrayvec::ArrayVec;
 use calibration::{Calibration, ZStep, calibrate, note_figure};
-use figure::Figure;
-use vectors::text::Row;
-
-fn number(n: u32) -> usize
-    ensures { result < 4294967296 }
-{
-    n as usize
-}
 
 // An f32's bits. A NaN's are 7fc00000, which no line has.
 fn bits(x: f32) -> usize
-    ensures { result < 4294967296 }
+    ensures { is_nan x ≡ false → result ≡ to_bits binary32 x }
 {
-    if x != x {
+    if x.is_nan() {
         return 0x7fc0_0000;
     }
-    number(f32::to_bits(x))
-}
-
-fn wide(b: u8) -> usize
-    ensures { result < 256 }
-{
-    b as usize
+    u64::from(x.to_bits()) as usize
 }
 
 // A figure's letters as the bytes of one number.
-fn letters(f: Figure) -> usize
-    ensures { f.len ≡ 0 → result ≡ 0 }
-{
-    let bytes = f.bytes;
-    let len = f.len;
-    let mut n: usize = 0;
-    let mut i = 0;
-    while i < 8 {
-        if len <= i {
-            return n;
-        }
-        // seven letters before it at most
-        if 0xff_ffff_ffff_ffff < n {
-            return 0;
-        }
-        n = n * 256 + wide(bytes[i]);
-        i += 1;
-    }
-    n
+fn letters(figure: ArrayVec<u8, 8>) -> usize {
+    let mut bytes = [0; 8];
+    bytes[8 - figure.len()..].copy_from_slice(figure.as_slice());
+    usize::from_be_bytes(bytes)
 }
 
-fn step(a: Answer, z: ZStep) -> Answer
-    ensures { result.len ≤ a.len + 2 }
+// Whether the Z step is what is said.
+fn step(said: &[usize], z: ZStep) -> bool
+    ensures { result ≡ true → 1 ≤ length said.now }
 {
     match z {
-        ZStep::Used(um) => a.with(0).with(bits(um)),
-        ZStep::Absent => a.with(1),
-        ZStep::Placeholder(_) => a.with(2).with(letters(note_figure(z))),
-        ZStep::TooLarge(_) => a.with(3).with(letters(note_figure(z))),
+        ZStep::Used(um) => said == [0, bits(um)].as_slice(),
+        ZStep::Absent => said == [1].as_slice(),
+        ZStep::Placeholder(_) => said == [2, letters(note_figure(z))].as_slice(),
+        ZStep::TooLarge(_) => said == [3, letters(note_figure(z))].as_slice(),
     }
 }
 
-// An answer, and then the calibration.
-pub fn calibrated(a: Answer, c: Calibration) -> Answer
-    ensures { result.len ≤ a.len + 5 }
+// Whether the calibration is what is said.
+pub fn calibrated(said: &[usize], calibration: Option<Calibration>) -> bool
+    ensures { result ≡ true → 1 ≤ length said.now }
 {
-    match c {
-        Calibration::Uncalibrated => a.with(0),
-        Calibration::Sized { x, y, z } => step(a.with(1).with(bits(x)).with(bits(y)), z),
+    match (calibration, said) {
+        (None, [0]) => true,
+        (Some(c), [1, x, y, z @ ..]) => *x == bits(c.x) && *y == bits(c.y) && step(z, c.z),
+        _ => false,
     }
 }
 
-fn pattern(n: usize) -> u64
-    ensures { result ≡ n }
+// The voxel sizes, and what calibrating by them answers.
+pub fn voxels(numbers: &[usize]) -> bool
+    ensures { result ≡ true → 3 ≤ length numbers.now }
 {
-    n as u64
-}
-
-// Whether the calibration is the line's.
-pub fn voxels(row: Row) -> bool
-    ensures { result ≡ true → 3 ≤ row.count }
-{
-    if row.count < 3 {
+    let [x, y, z, said @ ..] = numbers else {
         return false;
-    }
-    let n = row.numbers;
-    let c = calibrate(pattern(n[0]), pattern(n[1]), pattern(n[2]));
-    agrees(row, 3, calibrated(Answer::none(), c))
+    };
+    calibrated(said, calibrate(*x as u64, *y as u64, *z as u64))
 }
