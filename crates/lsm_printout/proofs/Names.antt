@@ -1,9 +1,9 @@
 -- "An array [0; 3072] holds a decoded name at its worst expansion, three bytes for each of 1,024": so every channel is found, and
 -- what the answer and the lent memory hold is the channel. Assumes nothing.
 use Prim.Native.Nat.{ℕ, zero, suc, ◌+◌, ◌≤◌, ◌<◌}
-use mathlib.Core.Path.{◌≡◌, refl, ap, ◌∙◌}
+use mathlib.Core.Path.{◌≡◌, refl, sym, ap, ◌∙◌}
 use mathlib.Core.Bool.{Bool, true, false}
-use Rattle.std.specs.Prelude.{Option, None, Some}
+use Rattle.std.specs.Prelude.{Option, None, Some, Result as Answered, Ok, Err}
 use mathlib.Core.List.{List}
 use native.Mathlib.Omega.{arith}
 use borrow.Author.Tests.{lt-ltb, leb-true}
@@ -13,16 +13,17 @@ use lib.ListN.{length, take, drop}
 use lib.Seq.{take_at}
 use Rattle.lsm_format.specs.Answer.{Result, accepted, refused, bind}
 use Rattle.lsm_format.specs.Numbers.{Order}
+use Rattle.lsm_format.specs.Code.{answer_by, row_of}
+use Rattle.lsm_format.specs.declared.error.Refusal.{Refusal}
 use Rattle.lsm_format.specs.Lent.{filled}
 use Rattle.lsm_format.specs.Channels.{Channel, kept, name_span, text_in, name, record_of, channel_by, pointers, channel_in, text_of, lookup, lookup_memory}
 use Rattle.lsm_format.proofs.Lent.{lend_room, filled_room}
 use Rattle.printout_room.proofs.Texts.{text_length}
-use Rattle.lsm_channel_colors.specs.Code.{Seen, meta_of, answer_of, length_of, seen, Looked}
+use Rattle.lsm_channel_colors.specs.Code.{Seen, meta_of, length_of, seen, Looked}
 use Rattle.lsm_channel_colors.specs.declared.ChannelMeta.{ChannelMeta}
-use Rattle.lsm_channel_colors.specs.declared.ChannelAnswer.{ChannelAnswer}
-use Rattle.lsm_channel_colors.specs.declared.ChannelAnswer.TheVariants.{Found, Refused}
-use Rattle.lsm_format.specs.declared.error.Refusal.{Refusal}
 use Rattle.lsm_format.proofs.Apart.{no_case}
+use Rattle.std.proofs.lemmas.List.{take_min}
+use Rattle.lsm_printout.proofs.Puts.{after}
 use Rattle.lsm_printout.specs.Channel.{first_of, channel_of}
 
 -- ---- a name
@@ -85,22 +86,23 @@ module _ {o : Order} {f : List ℕ} {block : Option ℕ} {channels channel : ℕ
       → s ≡ accepted (seen_of (channel_in o f block channel))
   answered h e l = l.answered ∙ ap seen (lookup_found o f block channels channel (length before) h (omega arith))
 
-  -- the answer's channel, its name taken from the memory, is the file's
-  pub looked_found : {r : ChannelAnswer} {m : ChannelMeta} → channel < channels → length before ≡ 3072 → Looked o f block channels channel before after (answer_of r)
-      → r ≡ Found m → channel_of (meta_of m) after ≡ channel_in o f block channel
-  looked_found {r} {m} h e l v =
+  -- the file's channel is the answer's, its name taken from the memory
+  pub looked_found : {r : Answered ChannelMeta Refusal} {m : ChannelMeta} → Looked o f block channels channel before after (answer_by meta_of r) → r ≡ Ok m
+      → channel < channels → length before ≡ 3072 → channel_in o f block channel ≡ channel_of (meta_of m) after
+  looked_found {r} {m} l v h e =
       let c = channel_in o f block channel in
-      let a : answer_of r ≡ accepted (seen_of c) = answered h e l in
-      let b : answer_of r ≡ accepted (meta_of m) = ap answer_of v in
+      let a : accepted (meta_of m) ≡ accepted (seen_of c) = rw v at (answered h e l) in
       let q : meta_of m ≡ seen_of c = cc in
       let n : first_of (length_of c.name) after ≡ c.name =
       first_text c.name before after (omega (arith, channel_room o f block channel)) (l.memory ∙ memory_found o f block channels channel before h) in
-      ap (λ (s : Seen). channel_of s after) q ∙ ap (λ (t : Option (List ℕ)). record { color = c.color; name = t }) n
+      sym (ap (λ (t : Seen). channel_of t after) q ∙ ap (λ (t : Option (List ℕ)). record { color = c.color; name = t }) n)
 
   -- it is not refused
-  pub looked_refused : {r : ChannelAnswer} {e : Refusal} → channel < channels → length before ≡ 3072 → Looked o f block channels channel before after (answer_of r)
-      → r ≡ Refused e → ⊥
-  looked_refused {r} {e} h k l v =
-      let a : answer_of r ≡ accepted (seen_of (channel_in o f block channel)) = answered h k l in
-      let b = ap answer_of v in
+  pub looked_refused : {r : Answered ChannelMeta Refusal} {e : Refusal} → Looked o f block channels channel before after (answer_by meta_of r) → r ≡ Err e
+      → channel < channels → length before ≡ 3072 → ⊥
+  looked_refused {r} {e} l v h k =
+      let a : refused (row_of e) ≡ accepted (seen_of (channel_in o f block channel)) = rw v at (answered h k l) in
       no_case cc
+
+-- the front of a name
+pub ruleset named = (after, take_min)

@@ -1,76 +1,69 @@
--- Laws of numbers as text: a digit, one digit more, bytes up to a place. Assumes nothing.
-use Prim.Native.Nat.{ℕ, zero, suc, ◌+◌, ◌-◌, ◌/◌, ◌%◌, ◌≤◌, ◌<◌}
-use mathlib.Core.Path.{◌≡◌, refl, sym, ap, ◌∙◌}
-use mathlib.Core.Bool.{Bool, true, false}
-use mathlib.Core.List.{List, [], ◌∷◌, ◌++◌, append_assoc, append-nil}
-use native.Mathlib.Numerals.{add-one}
-use native.Mathlib.Omega.{arith}
-use borrow.Author.Tests.{lt-ltb, le-ltb, ltb-false}
-use lib.Dec.{ltb}
-use lib.ListN.{length, take, get_or}
-use lib.Seq.{take-suc, take_all}
-use Rattle.lsm_format.specs.Calibration.{digit}
-use Rattle.lsm_format.specs.Printout.{decimal_by, decimal, hex_digit, hex_digits, hex_bytes}
+-- Laws of numbers as text. Assumes nothing.
+use Rattle.std.proofs.Common.{◌==◌, Bool, true, ◌&&◌, inl, inr, slice_index, ◌≡◌, ℕ, zero, suc, ◌+◌, ◌/◌, ◌%◌, ◌<◌, ◌^◌, List, [], ◌∷◌, ◌++◌, length, take, get_or, refl, sym, arith, append_assoc}
+use Rattle.std.proofs.lemmas.Grind.{common_steps}
+use Rattle.std.proofs.lemmas.Fmt.{AppendsLastDigit, decimal_from_appends, length-decimal-le_succ}
+use Rattle.std.specs.Fmt as Std
+use Rattle.lsm_format.specs.Printout.{decimal_by, decimal, spaced, hex_digit, hex_digits, hex_bytes, numbers_text}
+use Rattle.lsm_printout.proofs.Puts.{after, put_nothing}
+use Rattle.std.proofs.lemmas.Bool.{and_parts, cases_lt, eqb-true}
+use Rattle.hex.specs.Hex.{encode_lower, encode_with, lower_digits}
 
 -- ---- decimal
 
--- one question of the definition, by its test
-abbrev step : Bool → ℕ → List ℕ → List ℕ
-step t n before = elim t [ true ↦ digit n ∷ [] | false ↦ before ++ digit (n % 10) ∷ [] ]
-
--- questions enough are as good as any other number that is enough
-enough : (k j n : ℕ) → n < k → n < j → decimal_by k n ≡ decimal_by j n
+last_digit : AppendsLastDigit decimal_by
 unfolding decimal_by
-enough zero j n h i = absurd (omega arith)
-enough (suc k) zero n h i = absurd (omega arith)
-enough (suc k) (suc j) n h i = go (ltb n 10) refl (λ u. enough k j (n / 10) (omega arith) (omega arith))
-  where
-    go : (t : Bool) → ltb n 10 ≡ t → (10 ≤ n → decimal_by k (n / 10) ≡ decimal_by j (n / 10))
-        → step t n (decimal_by k (n / 10)) ≡ step t n (decimal_by j (n / 10))
-    go true e below = refl
-    go false e below = ap (step false n) (below (ltb-false n 10 e))
+last_digit = record {
+  one = λ k n h. grind (arith, common_steps);
+  more = λ k n h. grind (arith, common_steps);
+}
 
-pub decimal_one : (n : ℕ) → n < 10 → decimal n ≡ digit n ∷ []
-unfolding decimal decimal_by
-decimal_one n h = ap (λ (t : Bool). step t n (decimal_by n (n / 10))) (lt-ltb n 10 h)
-
-pub decimal_more : (n : ℕ) → 10 ≤ n → decimal n ≡ decimal (n / 10) ++ digit (n % 10) ∷ []
-unfolding decimal decimal_by
-decimal_more n h =
-    ap (λ (t : Bool). step t n (decimal_by n (n / 10))) (le-ltb n 10 h) ∙ ap (step false n) (enough n (suc (n / 10)) (n / 10) (omega arith) (omega arith))
+pub decimal_same : (n : ℕ) → n < 2 ^ 64 → Std.decimal n ≡ decimal n
+unfolding decimal
+decimal_same n h = sym (decimal_from_appends decimal_by last_digit (suc n) n h (omega (arith, length-decimal-le_succ n h)))
 
 -- ---- hex
 
-pub hex_low : (d : ℕ) → d < 10 → 48 + d ≡ hex_digit d
-hex_low d h = rw (lt-ltb d 10 h)
+-- the digits below n are those of the library's table
+abbrev same_digits : ℕ → Bool
+same_digits zero = true
+same_digits (suc n) = (slice_index lower_digits n == hex_digit n) && same_digits n
 
-pub hex_high : (d : ℕ) → 10 ≤ d → 87 + d ≡ hex_digit d
-hex_high d h = rw (le-ltb d 10 h)
+same_digit : (n d : ℕ) → same_digits n ≡ true → d < n → slice_index lower_digits d ≡ hex_digit d
+same_digit zero d t h = absurd (omega arith)
+same_digit (suc n) d t h =
+    let parts = and_parts (slice_index lower_digits n == hex_digit n) (same_digits n) t in
+    elim (cases_lt d n) [
+      | inl below ↦ same_digit n d parts.1 below
+      | inr top ↦ let e : d ≡ n = omega arith in rw e (eqb-true _ _ parts.0)
+    ]
 
-pub hex_none : (k n : ℕ) → k ≡ 0 → hex_digits k n ≡ []
-unfolding hex_digits
-hex_none k n e = rw e
+-- a byte's two digits are the library's
+pub hex_byte : (b : ℕ) → b < 256 → encode_lower (b ∷ []) ≡ hex_digits 2 b
+unfolding hex_digits encode_with
+hex_byte b h =
+    let high : b / 16 % 16 ≡ b / 16 = omega arith in
+    rw (same_digit 16 (b / 16) refl (omega arith), same_digit 16 (b % 16) refl (omega arith), high) refl
 
-pub hex_more : (k n : ℕ) → (k ≡ 0 → ⊥) → hex_digits k n ≡ hex_digits (k - 1) (n / 16) ++ hex_digit (n % 16) ∷ []
-unfolding hex_digits
-hex_more zero n h = absurd (h refl)
-hex_more (suc k) n h = let e : suc k - 1 ≡ k = omega arith in rw e
+-- ---- up to a place
+
+numbers_append : (t u : List ℕ) → numbers_text (t ++ u) ≡ numbers_text t ++ numbers_text u
+unfolding numbers_text
+numbers_append [] u = refl
+numbers_append (n ∷ t) u = simp (numbers_append t u, append_assoc)
+
+pub numbers_next : (l : List ℕ) (i : ℕ) → i < length l → numbers_text (take (i + 1) l) ≡ numbers_text (take i l) ++ spaced (get_or l i 0)
+unfolding numbers_text
+numbers_next l i h = grind (arith, common_steps, numbers_append)
 
 hex_append : (t u : List ℕ) → hex_bytes (t ++ u) ≡ hex_bytes t ++ hex_bytes u
 unfolding hex_bytes
 hex_append [] u = refl
-hex_append (b ∷ t) u = ap (λ (l : List ℕ). hex_digits 2 b ++ l) (hex_append t u) ∙ sym (append_assoc (hex_digits 2 b) (hex_bytes t) (hex_bytes u))
-
--- ---- up to a place
-
--- one byte more
-pub take_next : (l : List ℕ) (i : ℕ) → i < length l → take (i + 1) l ≡ take i l ++ get_or l i 0 ∷ []
-take_next l i h = rw (add-one i) (take-suc l i 0 h)
+hex_append (b ∷ t) u = simp (hex_append t u, append_assoc)
 
 pub hex_next : (l : List ℕ) (i : ℕ) → i < length l → hex_bytes (take (i + 1) l) ≡ hex_bytes (take i l) ++ hex_digits 2 (get_or l i 0)
 unfolding hex_bytes
-hex_next l i h = ap hex_bytes (take_next l i h) ∙ hex_append (take i l) (get_or l i 0 ∷ []) ∙ ap (λ (x : List ℕ). hex_bytes (take i l) ++ x) (append-nil (hex_digits 2 (get_or l i 0)))
+hex_next l i h = grind (arith, common_steps, hex_append)
 
--- past the end there is no byte more
-pub hex_all : (l : List ℕ) (n : ℕ) → length l < n → hex_bytes l ≡ hex_bytes (take n l)
-hex_all l n h = ap hex_bytes (sym (take_all n l (omega arith)))
+pub ruleset numbers_written = (after, put_nothing, numbers_next)
+
+pub ruleset hex_written = (after, put_nothing, hex_next, hex_byte)

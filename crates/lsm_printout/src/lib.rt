@@ -3,101 +3,81 @@
 
 mod channels;
 mod lines;
+mod page;
 mod sizes;
-mod text;
 
 ghost use Rattle.std.specs.Prelude.{◌≡◌, length, IfOk, OnOk};
 ghost use Rattle.std.specs.Io.KnownBytes.{Appends};
 ghost use Rattle.lsm_format.specs.Printout.{text, head_lines, accepted_lines, channels_of, printout};
 ghost use Rattle.lsm_description.specs.Code.{description_of};
-ghost use Rattle.lsm_reader.specs.Opening.{opened_of};
-ghost use Rattle.lsm_printout.specs.Put.{Put, Listed};
-ghost use Rattle.lsm_printout.specs.Told.{told_lines};
+ghost use Rattle.lsm_printout.specs.Put.{put};
 
-use crate::channels::{put_channel_count, put_channels};
-use crate::lines::{put_dims, put_kind, put_refused, put_scene_count, put_scenes};
-use crate::sizes::{put_notes, put_pixel};
-use crate::text::put_bytes;
-use buffers::zeros;
+use crate::page::Page;
 use lsm_description::Description;
-use lsm_reader::open::{OpenAnswer, open_file};
+use lsm_reader::open::open_file;
 use std::io;
 use std::io::Write;
 
 // The longest file that is listed.
 const MOST: usize = 65_536;
 
-// The lines up to the number of scenes.
-fn put_head(out: &mut [u8], at: usize, d: Description) -> usize
-    ensures { Put (text (head_lines (description_of d))) at out.old out.new result }
-{
-    let dims = d.dims;
-    let kind = d.dtype;
-    let calibration = d.calibration;
-    let layout = d.layout;
-    let first = put_bytes(out, at, b"accepted\n");
-    let second = put_dims(out, first, dims);
-    let third = put_kind(out, second, kind);
-    let fourth = put_pixel(out, third, calibration);
-    put_scene_count(out, fourth, layout.scenes)
-}
+impl<const N: usize> Page<N> {
+    // The lines up to the number of scenes. A kind's number is its place in the enum.
+    #[tactic(auto, using(crate::proofs::TextLines::head), unfolding(lsm_format::specs::Printout::kind_line, lsm_format::specs::Printout::scenes_line, lsm_format::specs::Printout::numbers_text, lsm_format::specs::Printout::text))]
+    fn head(&mut self, d: Description)
+        ensures { self.new ≡ put N self.old (text (head_lines (description_of d))) }
+    {
+        self.bytes(b"accepted\n");
+        self.line(b"dims", &[d.dims.t, d.dims.c, d.dims.z, d.dims.y, d.dims.x]);
+        self.line(b"kind", &[d.dtype as usize]);
+        self.pixel(d.calibration);
+        self.line(b"scenes", &[d.layout.scenes]);
+    }
 
-// The lines of a file that opens.
-fn put_accepted(out: &mut [u8], at: usize, buf: &[u8], d: Description) -> usize
-    ensures { Put (text (accepted_lines (description_of d) (channels_of buf.now (description_of d)))) at out.old out.new result }
-{
-    let dims = d.dims;
-    let calibration = d.calibration;
-    let layout = d.layout;
-    let head = put_head(out, at, d);
-    let scenes = put_scenes(out, head, layout.scenes);
-    let count = put_channel_count(out, scenes, dims.c);
-    let channels = put_channels(out, count, buf, d);
-    put_notes(out, channels, calibration)
-}
+    // The lines of a file that opens.
+    #[tactic(auto, using(crate::proofs::TextLines::accepted), unfolding(lsm_format::specs::Printout::channels_line, lsm_format::specs::Printout::numbers_text, lsm_format::specs::Printout::text))]
+    fn accepted(&mut self, buf: &[u8], d: Description)
+        ensures { self.new ≡ put N self.old (text (accepted_lines (description_of d) (channels_of buf.now (description_of d)))) }
+    {
+        self.head(d);
+        self.scenes(d.layout.scenes);
+        self.line(b"channels", &[d.dims.c]);
+        self.channels(buf, d);
+        self.notes(d.calibration);
+    }
 
-// The lines of opening's answer.
-fn put_answer(out: &mut [u8], at: usize, buf: &[u8], answer: OpenAnswer) -> usize
-    ensures { Put (text (told_lines buf.now (opened_of answer))) at out.old out.new result }
-{
-    match answer {
-        OpenAnswer::Opened(o) => {
-            let d = o.description;
-            put_accepted(out, at, buf, d)
+    // A file's printout.
+    #[tactic(auto, using(crate::proofs::Whole::printout_long))]
+    fn list(&mut self, buf: &[u8])
+        ensures { self.new ≡ put N self.old (printout buf.now) }
+    {
+        if MOST < buf.len() {
+            return self.bytes(b"too long\n");
         }
-        OpenAnswer::Refused(r) => put_refused(out, at, r),
+        let mut table = [0usize; 4096];
+        match open_file(buf, &mut table) {
+            Ok(opened) => self.accepted(buf, opened.description),
+            Err(refusal) => self.refused(refusal),
+        }
     }
 }
 
-// Puts a file's printout at the front of `out` and answers its length. Where it has no room, as much of it as fits is put, and the
-// answer is one more than the length of `out`.
-fn list(buf: &[u8], out: &mut [u8]) -> usize
-    ensures { Listed (printout buf.now) out.old out.new result }
-{
-    if MOST < buf.len() {
-        return put_bytes(out, 0, b"too long\n");
-    }
-    let mut table = [0usize; 4096];
-    let answer = open_file(buf, &mut table);
-    put_answer(out, 0, buf, answer)
-}
-
-// Writes a file's printout, and nothing else; answers its length.
-fn write_printout<W: Write>(out: &mut W, _buf: &[u8], text: &[u8]) -> io::Result<usize>
-    requires { text.now ≡ printout _buf.now }
-    ensures value { IfOk result (λ n. n ≡ length (printout _buf.now)) }
-    ensures written { OnOk result (Appends (W.contents out.old) (W.contents out.new) (printout _buf.now)) }
+// Writes a text, and nothing else; answers its length.
+fn write_printout<W: Write>(out: &mut W, text: &[u8]) -> io::Result<usize>
+    ensures value { IfOk result (λ n. n ≡ length text.now) }
+    ensures written { OnOk result (Appends (W.contents out.old) (W.contents out.new) text.now) }
 {
     out.write_all(text)?;
     Ok(text.len())
 }
 
-// Lists a file and writes its printout, and nothing else; answers its length. Every printout has room in `text`.
+// Lists a file and writes its printout, and nothing else; answers its length. Every printout has room on the page.
+#[tactic(auto, using(crate::proofs::Whole::room))]
 pub fn print<W: Write>(out: &mut W, buf: &[u8]) -> io::Result<usize>
     ensures value { IfOk result (λ n. n ≡ length (printout buf.now)) }
     ensures written { OnOk result (Appends (W.contents out.old) (W.contents out.new) (printout buf.now)) }
 {
-    let mut text = zeros::<524288>();
-    let n = list(buf, &mut text);
-    write_printout(out, buf, &text[..n])
+    let mut page = Page::<524288>::new();
+    page.list(buf);
+    write_printout(out, page.as_slice())
 }
