@@ -10,8 +10,9 @@ use lib.Dec.{leb, is_le, compare_is_eq, lit<, lit≤}
 use lib.Ieee.{nearest}
 use lib.Pow.{shl_lt, pow_mono, pow_pos}
 use borrow.Author.Tests.{le-leb, lt-leb, leb-true, leb-false, eq-eqb, ne_eqb}
-use Rattle.lsm_format.specs.Calibration.{tens_above, tens_below, hundredfold}
-use Rattle.figure.specs.Wide.{room, Scaled, Divided, Quotient, Near}
+use lib.IntN.{pos, ◌-ℤ◌}
+use Rattle.lsm_format.specs.Calibration.{tens_above, tens_below, hundredfold, figure_text, figure_by}
+use Rattle.figure.specs.Wide.{room, Scaled, Divided, Quotient, Near, figure_of}
 
 -- ---- a mantissa of 24 bits, doubled
 
@@ -253,3 +254,11 @@ near_small b v n z f =
     let p : 0 < b % 2 ^ 23 = omega arith in
     let l : b % 2 ^ 23 < 2 ^ 24 = omega arith in
     rw (mul-one (b % 2 ^ 23)) at (near (b % 2 ^ 23) 0 v p l (lit< tt) f)
+
+-- The figure of a fraction from its tens and its three digits.
+pub figure_by_lem : (num den top a bottom b q : ℕ) → Scaled (tens_above 64 num den) den 64 bottom a → Scaled (tens_below 64 num den) num 64 top b → q ≡ hundredfold top bottom
+    → figure_text q (pos a -ℤ pos b) ≡ figure_of num den
+figure_by_lem num den top a bottom b q up low e =
+    ap (λ (z : ℕ). figure_text z (pos a -ℤ pos b)) (e ∙ ap (λ (z : ℕ). hundredfold z bottom) low.scaled ∙ ap (λ (z : ℕ). hundredfold (num * 10 ^ b) z) up.scaled)
+    ∙ ap (λ (z : ℕ). figure_by z b num den) up.right
+    ∙ ap (λ (z : ℕ). figure_by (tens_above 64 num den) z num den) low.right
