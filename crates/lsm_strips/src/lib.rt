@@ -6,7 +6,7 @@ mod pages;
 mod strips;
 pub mod walk;
 
-ghost use Rattle.std.specs.Prelude.{◌≡◌, ◌+◌, ◌*◌, ◌<◌, ◌≤◌, length};
+ghost use Rattle.std.specs.Prelude.{◌≡◌, [], ◌+◌, ◌*◌, ◌<◌, ◌≤◌, length};
 ghost use Rattle.lsm_format.specs.Code.{answer_by, rect_of, coordinate_of};
 ghost use Rattle.lsm_format.specs.Picture.{plane_from, region_from};
 ghost use Rattle.lsm_description.specs.Code.{description_of};
@@ -26,9 +26,21 @@ pub struct StripRun {
 }
 
 impl StripRun {
-    // The strips themselves: where each starts, and its bytes.
-    #[tactic(auto, using(crate::proofs::Pairs::run_at))]
+    // The strips themselves: where each starts, and its bytes. None where the table doesn't have all of them.
     pub fn of(self, table: &[usize]) -> &[[usize; 2]]
+        ensures there { 2 * (self.first + self.count) ≤ length table.now → result.now ≡ strips_at table.now self.first self.count }
+        ensures lacking { length table.now < 2 * (self.first + self.count) → result.now ≡ [] }
+    {
+        let strips = table.len() / 2;
+        if strips < self.first || strips - self.first < self.count {
+            return &[];
+        }
+        self.taken_from(table)
+    }
+
+    // The same, of a table that has them.
+    #[tactic(auto, using(crate::proofs::Pairs::run_at))]
+    fn taken_from(self, table: &[usize]) -> &[[usize; 2]]
         requires { 2 * (self.first + self.count) ≤ length table.now }
         ensures { result.now ≡ strips_at table.now self.first self.count }
     {

@@ -70,7 +70,7 @@ impl Asked<'_> {
                 first: start + c * count,
                 count,
             };
-            if !strips_of_rows(run.of(self.table), row, self.d.dims.y) {
+            if !strips_of_rows(run.taken_from(self.table), row, self.d.dims.y) {
                 return false;
             }
         }

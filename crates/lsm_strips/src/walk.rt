@@ -11,9 +11,19 @@ pub struct Cursor<'a> {
 }
 
 impl<'a> Cursor<'a> {
-    // The cursor moved on by `rows` rows of `row` bytes; nowhere where the strips end before that. A strip that ends before the place
-    // looked for is passed whole: the rows that begin in it are counted off, and the last of them reaches into the next strip.
+    // The cursor moved on by `rows` rows of `row` bytes; nowhere where the strips end before that.
     pub fn seek(self, rows: usize, row: usize) -> Option<Cursor<'a>>
+        ensures { MatchOption result (total_in self.entry.strips.now ≤ rows * row + self.entry.into) (λ c. Reaches self.entry.strips.now (rows * row + self.entry.into) c.strips.now c.into) }
+    {
+        if row == 0 {
+            return self.pass(0, 1); // rows without bytes all begin where the cursor stands
+        }
+        self.pass(rows, row)
+    }
+
+    // The same, where a row has a byte. A strip that ends before the place looked for is passed whole: the rows that begin in it are counted
+    // off, and the last of them reaches into the next strip.
+    fn pass(self, rows: usize, row: usize) -> Option<Cursor<'a>>
         requires { 0 < row }
         ensures { MatchOption result (total_in self.entry.strips.now ≤ rows * row + self.entry.into) (λ c. Reaches self.entry.strips.now (rows * row + self.entry.into) c.strips.now c.into) }
     {

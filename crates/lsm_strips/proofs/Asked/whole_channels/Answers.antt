@@ -10,10 +10,10 @@ pub returns-then-not-strips_of_rows : goal.returns-then-not-strips_of_rows
 returns-then-not-strips_of_rows c =
     sym (channels_broken _ _ _ _ _ c.loop-c-test.true
     (sym (channel_is (description_of c.args.self.d) _ _ _ _ c.requires.start.0 c.requires.start.1 c.loop-c.c)
-    ∙ ap (λ s. whole_in c.args.row s c.args.self.d.dims.y) (sym c.of.ensures) ∙ sym c.if-not-strips_of_rows.ensures))
+    ∙ ap (λ s. whole_in c.args.row s c.args.self.d.dims.y) (sym c.taken_from.ensures) ∙ sym c.if-not-strips_of_rows.ensures))
 
 pub loop-c-preserved : goal.loop-c-preserved
 loop-c-preserved c =
     below_more _ _ c.loop-c.invariant
     (sym (channel_is (description_of c.args.self.d) _ _ _ _ c.requires.start.0 c.requires.start.1 c.loop-c.c)
-    ∙ ap (λ s. whole_in c.args.row s c.args.self.d.dims.y) (sym c.of.ensures) ∙ sym c.if-not-strips_of_rows.ensures)
+    ∙ ap (λ s. whole_in c.args.row s c.args.self.d.dims.y) (sym c.taken_from.ensures) ∙ sym c.if-not-strips_of_rows.ensures)

@@ -21,8 +21,8 @@ overflow_mul-self c =
 pub returns-then-is_some : goal.returns-then-is_some
 returns-then-is_some c =
     let known = reckoned _ _ _ c.requires.whole c.requires.lying in
-    let lie = rw c.of-strips.ensures at (sym c.if-strips_inside.ensures) in
+    let lie = rw c.taken_from-strips.ensures at (sym c.if-strips_inside.ensures) in
     let there = (there_then _ _ _ c.seek-last.ensures (sym c.if-is_some.ensures)).1.there in
-    let far = rw (c.of-strips.ensures, total_at c.args.self.table.now c.in_ok-run.run'.first c.in_ok-run.run'.count, c.size_bytes-size.ensures) at there in
+    let far = rw (c.taken_from-strips.ensures, total_at c.args.self.table.now c.in_ok-run.run'.first c.in_ok-run.run'.count, c.size_bytes-size.ensures) at there in
     sym (window_at (description_of c.args.self.d) _ _ _ _ _ _ (sym c.in_ok-checked_plane_bytes.ensures) (sym c.in_ok-run.ensures)
     (sym (inside_at c.args.self.table.now c.args.self.len c.in_ok-run.run'.first c.in_ok-run.run'.count) ∙ lie) (omega (arith, far, known.one)))
