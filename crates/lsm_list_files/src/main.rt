@@ -2,62 +2,39 @@
 // its bytes. tools/list_files.py makes them.
 #![tactic(auto)]
 
-ghost use Rattle.std.specs.Prelude.{◌≡◌, ◌+◌, ◌≤◌, ◌<◌, length, IfOk};
+ghost use Rattle.std.specs.Prelude.{◌≡◌, OnOk, option_map};
+ghost use Rattle.std.specs.Io.KnownBytes.{Appends};
+ghost use Rattle.lsm_list_files.specs.Stored.{first_file, printouts};
 
 use buffers::{read_full, zeros};
 use lsm_printout::print;
 use std::io;
 use std::io::Write;
 
-// The length at a place.
-fn length_at(all: &[u8], at: usize) -> usize
-    requires { at + 4 ≤ length all.now }
-    ensures { result < 4294967296 }
+// The file at the front, and what stands behind it; none where no whole file stands there.
+#[tactic(auto, using(crate::proofs::Listing::first))]
+fn first_file(all: &[u8]) -> Option<(&[u8], &[u8])>
+    ensures { option_map (λ p. (p.0.now, p.1.now)) result ≡ first_file all.now }
 {
-    wide(all[at])
-        + wide(all[at + 1]) * 256
-        + wide(all[at + 2]) * 65536
-        + wide(all[at + 3]) * 16777216
+    let (len, rest) = all.split_first_chunk::<4>()?;
+    rest.split_at_checked(u32::from_le_bytes(*len) as usize)
 }
 
-fn wide(b: u8) -> usize
-    ensures { result < 256 }
+// Lists them all.
+#[tactic(auto, using(crate::proofs::Listing::listing))]
+fn list_all<W: Write>(out: &mut W, all: &[u8]) -> io::Result<()>
+    ensures { OnOk result (Appends (W.contents out.old) (W.contents out.new) (printouts all.now)) }
 {
-    b as usize
-}
-
-// Lists the file at a place, and answers where the next begins: at the end where there is no whole file.
-fn next<W: Write>(out: &mut W, all: &[u8], at: usize) -> io::Result<usize>
-    requires { at < length all.now }
-    ensures { IfOk result (λ n. (at < n) × (n ≤ length all.now)) }
-{
-    if all.len() - at < 4 {
-        return Ok(all.len());
+    let mut rest = all;
+    while let Some((file, behind)) = first_file(rest) {
+        print(out, file)?;
+        rest = behind;
     }
-    let start = at + 4;
-    let len = length_at(all, at);
-    if all.len() - start < len {
-        return Ok(all.len());
-    }
-    let end = start + len;
-    print(out, &all[start..end])?;
-    Ok(end)
-}
-
-// Lists them all, and answers where they end.
-fn list_all<W: Write>(out: &mut W, all: &[u8]) -> io::Result<usize>
-    ensures { IfOk result (λ n. n ≡ length all.now) }
-{
-    let mut at = 0;
-    while at < all.len() {
-        at = next(out, all, at)?;
-    }
-    Ok(at)
+    Ok(())
 }
 
 fn main(rt: HostRuntime) -> io::Result<()> {
     let mut all = zeros::<262144>();
     let n = read_full(&mut rt.stdin(), &mut all)?;
-    list_all(&mut rt.stdout(), &all[..n])?;
-    Ok(())
+    list_all(&mut rt.stdout(), &all[..n])
 }
