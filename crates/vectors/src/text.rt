@@ -1,6 +1,6 @@
 // The lines of a list of recorded answers. A line is a letter, then hexadecimal numbers with a space before each, then a colon and
 // bytes where the case has any. Two digits are a byte, and `*NNBB` is NN bytes BB.
-ghost use Rattle.std.specs.Prelude.{◌≡◌, ◌++◌, ◌+◌, ◌^◌, ◌<◌, ◌≤◌, length, replicate, option_map, IfSome};
+ghost use Rattle.std.specs.Prelude.{◌≡◌, false, ◌++◌, ◌+◌, ◌^◌, ◌<◌, ◌≤◌, length, replicate, option_map, IfSome};
 ghost use Rattle.std.specs.Iterator.{at_most};
 ghost use Rattle.arrayvec.specs.ArrayVec.{array_vec_len};
 ghost use Rattle.vectors.specs.Code.{says_of, line_of};
@@ -120,6 +120,20 @@ fn says<const N: usize, const M: usize>(text: &[u8]) -> Option<(Said<N, M>, &[u8
 pub struct Line<const N: usize, const M: usize> {
     pub letter: u8,
     pub said: Option<Said<N, M>>,
+}
+
+impl<const N: usize, const M: usize> Line<N, M> {
+    // Whether a test of its numbers and bytes agrees with the line. With one that hasn't the form nothing agrees.
+    pub fn agrees<F: Fn(&[usize], &[u8]) -> bool>(&self, test: F) -> bool
+        requires { F.IsAlwaysCallable test }
+        ensures none { self.now.said ≡ None → result ≡ false }
+        ensures some { IfSome self.now.said (λ s. (n : _) × (b : _) × (n.now ≡ s.numbers.items) × (b.now ≡ s.bytes.items) × F.post test n b result) }
+    {
+        match &self.said {
+            Some(said) => test(said.numbers.as_slice(), said.bytes.as_slice()),
+            None => false,
+        }
+    }
 }
 
 // The lines of a list, with room for so many numbers and bytes. One that hasn't the form ends the list.
