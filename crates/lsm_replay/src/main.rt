@@ -3,7 +3,7 @@
 // are wrong on purpose (tools/wrong_lines.py).
 #![tactic(auto)]
 
-ghost use Rattle.std.specs.Prelude.{◌≡◌, true, ◌+◌, ◌≤◌, length};
+ghost use Rattle.std.specs.Prelude.{◌+◌, ◌≤◌, length};
 
 use buffers::{read_full, zeros};
 use std::io;
@@ -15,52 +15,6 @@ mod cz;
 mod ground;
 mod voxels;
 
-// What a line asks for, by its letter.
-#[derive(Clone, Copy)]
-enum Kind {
-    Read,
-    Size,
-    Region,
-    Empty,
-    Scenes,
-    Pages,
-    Page,
-    Voxels,
-    Block,
-}
-
-fn kind_of(letter: u8) -> Option<Kind> {
-    match letter {
-        b'b' => Some(Kind::Read),
-        b's' => Some(Kind::Size),
-        b'r' => Some(Kind::Region),
-        b'm' => Some(Kind::Empty),
-        b'l' => Some(Kind::Scenes),
-        b'e' => Some(Kind::Pages),
-        b'p' => Some(Kind::Page),
-        b'c' => Some(Kind::Voxels),
-        b'z' => Some(Kind::Block),
-        _ => None,
-    }
-}
-
-// Whether the answer is the line's.
-fn agrees(kind: Kind, numbers: &[usize], bytes: &[u8]) -> bool
-    ensures { result ≡ true → 3 ≤ length numbers.now }
-{
-    match kind {
-        Kind::Read => ground::read(numbers, bytes),
-        Kind::Size => ground::size(numbers),
-        Kind::Region => ground::region(numbers),
-        Kind::Empty => ground::empty(numbers),
-        Kind::Scenes => ground::scenes(numbers),
-        Kind::Pages => ground::pages(numbers),
-        Kind::Page => ground::page(numbers),
-        Kind::Voxels => voxels::voxels(numbers),
-        Kind::Block => cz::block(numbers, bytes),
-    }
-}
-
 #[derive(Clone, Copy)]
 struct Tallies {
     plain: Tally,
@@ -68,7 +22,7 @@ struct Tallies {
     blocks: Tally,
 }
 
-// A letter that stands for nothing differs, and so does a line that hasn't the form.
+// What a line asks for goes by its letter. A letter that stands for nothing differs.
 fn compare(text: &[u8]) -> Tallies
     ensures { result.plain.cases + result.voxels.cases + result.blocks.cases ≤ length text.now }
 {
@@ -76,19 +30,17 @@ fn compare(text: &[u8]) -> Tallies
     let mut voxels = Tally::default();
     let mut blocks = Tally::default();
     for line in Lines::<20, 320>::new(text) {
-        let kind = kind_of(line.letter);
-        let same = match (kind, &line.said) {
-            (Some(kind), Some(said)) => agrees(
-                kind,
-                said.numbers.as_slice(),
-                said.bytes.as_slice(),
-            ),
-            _ => false,
-        };
-        match kind {
-            Some(Kind::Voxels) => voxels.count(same),
-            Some(Kind::Block) => blocks.count(same),
-            _ => plain.count(same),
+        match line.letter {
+            b'b' => plain.count(line.agrees(ground::read)),
+            b's' => plain.count(line.agrees(|said, _| ground::size(said))),
+            b'r' => plain.count(line.agrees(|said, _| ground::region(said))),
+            b'm' => plain.count(line.agrees(|said, _| ground::empty(said))),
+            b'l' => plain.count(line.agrees(|said, _| ground::scenes(said))),
+            b'e' => plain.count(line.agrees(|said, _| ground::pages(said))),
+            b'p' => plain.count(line.agrees(|said, _| ground::page(said))),
+            b'c' => voxels.count(line.agrees(|said, _| voxels::voxels(said))),
+            b'z' => blocks.count(line.agrees(cz::block)),
+            _ => plain.count(false),
         }
     }
     Tallies {
