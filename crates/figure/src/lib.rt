@@ -1,5 +1,6 @@
 // The figure of a note: a number as a short exponential, as `1e-13`, `5e-7` or `2.5e-7`.
-// The value is a fraction of two wide numbers: no rounding is done before the last digit's.
+// The value is a fraction of two wide numbers: no rounding is done before the last digit's. What is known of the two changes from step to
+// step, so it stands with each step: a type for the fraction would need another for each.
 #![tactic(auto)]
 
 mod wide;

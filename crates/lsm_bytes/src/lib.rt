@@ -1,4 +1,5 @@
-// Bounds-checked reads of the numbers that a file is made of. Every read answers: the number, or that it passes the end.
+// Bounds-checked reads of the numbers that a file is made of. Every read answers: the number, or that it passes the end. A buffer, a place
+// and the order are three arguments, as in the Rust: most callers have the order once and the place many times.
 #![tactic(auto)]
 
 ghost use Rattle.std.specs.Prelude.{◌≡◌};

@@ -1,5 +1,6 @@
 // The C interface; `lsm_c_c` exports it. Every number has 64 bits; a slice comes as pointer and length. Every function returns document
-// 01's number, 0 where it accepts, and overwrites the whole of `answer`: with the answer, or with a refusal's row and zeros after it.
+// 01's number, 0 where it accepts, and overwrites the whole of `answer`: with the answer, or with a refusal's row and zeros after it. Arguments
+// come one by one, a description as its words and a coordinate as four numbers, since that is how C hands them in.
 #![tactic(auto)]
 
 ghost use Rattle.lsm_format.specs.Code.{answer_by};

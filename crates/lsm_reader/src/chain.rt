@@ -125,7 +125,8 @@ fn lay_page(buf: &[u8], d: Directory, e: Endian, used: usize, table: &mut [usize
     end
 }
 
-// Walks the chain and judges every directory on it; it is left at the first refusal, from inside an entry too. A chain in a circle never
+// Walks the chain and judges every directory on it; it is left at the first refusal, from inside an entry too. A labelled loop in a labelled
+// loop is the form that the project asks for here. A chain in a circle never
 // ends, and would be refused after 1,000,000 visits: it is refused when the walk comes back to the mark. The strips of the full pages are
 // laid into the table as far as there is room, so a table of no words is left as it is.
 pub(crate) fn walk_chain(buf: &[u8], e: Endian, table: &mut [usize]) -> Result<Walk, Refusal>

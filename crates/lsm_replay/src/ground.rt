@@ -7,6 +7,8 @@ use lsm_format::error::Refusal;
 use lsm_format::types::{Coordinate, DType, Dims5, Endian, PixelRect, checked_region};
 use lsm_positions::LsmLayout;
 
+// A line's numbers stand for these, as the recorder wrote them; no number is refused, so there is no `TryFrom`.
+
 pub fn order(n: usize) -> Endian
     ensures { (n ≡ 0 → result ≡ Endian.Little) × (0 < n → result ≡ Endian.Big) }
 {

@@ -2,7 +2,7 @@
 ghost use Rattle.std.specs.Prelude.{◌≡◌};
 ghost use Rattle.lsm_format.specs.Code.{order_of, kind_of, answer_of, answer_by};
 ghost use Rattle.lsm_description.specs.Code.{description_of};
-ghost use Rattle.lsm_words.specs.Description.{order_word, kind_word, block_words, description_words};
+ghost use Rattle.lsm_words.specs.Description.{block_words, description_words};
 ghost use Rattle.lsm_words.specs.Description.{order_by, kind_by, block_by, described_by};
 
 use crate::sizes::{size_of, size_words};
@@ -13,28 +13,6 @@ use lsm_positions::LsmLayout;
 
 // How many words a description has. A word more stands at the end.
 pub const DESCRIPTION_WORDS: usize = 18;
-
-// Both ways as functions of this crate: `From` and `TryFrom` would have to stand with the types, which know nothing of the words.
-
-fn order_word(e: Endian) -> usize
-    ensures { result ≡ order_word (order_of e) }
-{
-    match e {
-        Endian::Little => 0,
-        Endian::Big => 1,
-    }
-}
-
-fn kind_word(k: DType) -> usize
-    ensures { result ≡ kind_word (kind_of k) }
-{
-    match k {
-        DType::U8 => 0,
-        DType::U16 => 1,
-        DType::I16 => 2,
-        DType::F32 => 3,
-    }
-}
 
 #[tactic(auto, unfolding(crate::specs::Description::block_words))]
 fn block_words(block: Option<usize>) -> [usize; 2]
@@ -53,8 +31,8 @@ pub fn description_words(d: Description) -> [usize; DESCRIPTION_WORDS]
     let [sized, x, y, step, z] = size_words(d.calibration);
     let [there, place] = block_words(d.channel_colors_offset);
     [
-        order_word(d.endian),
-        kind_word(d.dtype),
+        d.endian as usize,
+        d.dtype as usize,
         d.dims.t,
         d.dims.c,
         d.dims.z,
@@ -74,7 +52,7 @@ pub fn description_words(d: Description) -> [usize; DESCRIPTION_WORDS]
     ]
 }
 
-// ---- and back
+// ---- and back: functions of this crate, since `TryFrom` would have to stand with the types, which know nothing of the words
 
 #[tactic(auto, unfolding(crate::specs::Description::order_by, crate::specs::Calibration::chosen))]
 fn order_of(word: usize) -> Result<Endian, Refusal>
