@@ -1,12 +1,13 @@
 -- Laws of what is given: what makes a rectangle ready to be copied, and what is left in the sample buffer. Assumes nothing.
-use Prim.Native.Nat.{ℕ, ◌+◌, ◌-◌, ◌*◌, ◌^◌, ◌<◌, ◌≤◌}
+use Prim.Native.Nat.{ℕ, ◌+◌, ◌-◌, ◌*◌, ◌/◌, ◌^◌, ◌<◌, ◌≤◌}
 use native.Mathlib.Nat.{add-mul, zero-mul, mul-zero, lt_of_not-le, mul_comm, mul-le-mul, mul-le-mul_right, le-mul_of_pos_right, add-sub_cancel_left, min-eq_left}
 use native.Mathlib.Omega.{arith}
+use Rattle.std.proofs.Math.Nat.{mul-div_cancel}
 use mathlib.Core.Path.{◌≡◌, refl, sym, ap, subst, ◌∙◌}
 use mathlib.Core.Logic.{inl, inr}
 use mathlib.Core.Bool.{true}
 use mathlib.Core.List.{List, [], ◌∷◌, ◌++◌, reverse}
-use lib.ListN.{length, drop}
+use lib.ListN.{length, get_or, drop}
 use Rattle.lsm_format.specs.Answer.{Result, accepted, refused, bind, too_short}
 use Rattle.lsm_format.specs.Numbers.{Order, little, big}
 use Rattle.lsm_format.specs.Open.{Description}
@@ -14,22 +15,19 @@ use Rattle.lsm_format.specs.Rectangle.{Rect, Coordinate, is_empty}
 use Rattle.lsm_format.specs.Sizes.{Kind, u8, u16, i16, f32, sample_size, picture_bytes}
 use Rattle.lsm_format.specs.Picture.{Strips, Samples, stored, inside, span, bytes, picture, each_sample, to_little, window, channel_picture, samples_in, row_bytes, into, whole_picture, plane_from, plane, no_strips, region_from, region}
 use Rattle.lsm_format.proofs.Lent.{lend_room, lend_short, filled_room, filled_short}
-use Rattle.lsm_format.proofs.Picture.{held, picture_length_lem, window_rows, window_cong, window_each, plane_accepted, coordinate_channel, rectangle_within, channel_room}
-use Rattle.lsm_format.proofs.Region.{size_rows, end_inside, region_accepted, empty_then, not_empty, samples_length, plane_from_then, region_from_then}
+use Rattle.lsm_format.proofs.Picture.{held, span_cong, bytes_cong, picture_length_lem, window_rows, window_cong, window_each, plane_accepted, coordinate_channel, rectangle_within, channel_room}
+use Rattle.lsm_format.proofs.Region.{size_rows, size_samples, end_inside, region_accepted, empty_then, not_empty, samples_length, plane_from_then, region_from_then}
 use Rattle.lsm_region.specs.Code.{Pictured}
 use Rattle.lsm_region.specs.Ready.{Ready}
-use Rattle.lsm_region.specs.Cursor.{RowsIn, SampleSize}
+use Rattle.lsm_strips.specs.Strips.{strips_at}
+use Rattle.lsm_strips.proofs.Pairs.{place_at, inside_at, total_at}
+use Rattle.lsm_region.specs.declared.copier.Rows.{Rows}
+use Rattle.lsm_region.specs.Rows.{stored_in, rows_of, RowsIn}
 use Rattle.lsm_region.proofs.Filling.{flip_one}
 
 no_bytes : (l : List ℕ) → length l ≡ 0 → l ≡ []
 no_bytes [] e = refl
 no_bytes (b ∷ l) e = absurd (omega arith)
-
-pub sample_size_lem : (k : Kind) → SampleSize (sample_size k)
-sample_size_lem u8 = inl refl
-sample_size_lem u16 = inr (inl refl)
-sample_size_lem i16 = inr (inl refl)
-sample_size_lem f32 = inr (inr refl)
 
 -- ---- copying
 
@@ -63,17 +61,18 @@ wide {d} {t} {len} {s} {r} y h =
       samples = omega (arith, le-mul_of_pos_right (r.w * r.h) p.1, y.size, mul_comm r.h r.w);
     }
 
+-- the rows of a rectangle
+abbrev pub part_of : Description → Rect → Rows
+part_of d r = record { row = row_bytes d; y = r.y; h = r.h; start = r.x * sample_size d.kind; part = r.w * sample_size d.kind }
+
 pub ready_rows : {d : Description} {t : List ℕ} {len : ℕ} {s : Strips} {r : Rect} → Ready d t len s r → Wide d r
-    → RowsIn t len s.first (s.first + s.count) (row_bytes d) r.y r.h (r.x * sample_size d.kind) (r.w * sample_size d.kind)
+    → RowsIn len (strips_at t s.first s.count) (part_of d r)
 ready_rows {d} {t} {len} {s} {r} y w =
-    let q : s.first + s.count - s.first ≡ s.count = add-sub_cancel_left s.first s.count in
     record {
-      words = y.words;
-      among = omega arith;
       some = w.part;
       across = w.start;
-      held = rw (q, ← add-mul) (y.held w.columns w.high);
-      within = rw q y.within;
+      held = rw (total_at, ← add-mul) (y.held w.columns w.high);
+      within = rw inside_at y.within;
     }
 
 -- ---- the samples, in either order
@@ -82,11 +81,16 @@ one_byte : (o : Order) (sample : List ℕ) → length sample ≡ 1 → sample �
 one_byte little sample e = refl
 one_byte big sample e = flip_one sample e
 
-module _ (d : Description) (t f : List ℕ) (s : Strips) (r : Rect) (l : List ℕ)
-    (e : l ≡ span r.y r.h (λ i. bytes (stored f t s.first (s.first + s.count - s.first)) (i * row_bytes d + r.x * sample_size d.kind) (r.w * sample_size d.kind))) where
+module _ (d : Description) (t f : List ℕ) (s : Strips) (r : Rect) (l : List ℕ) (e : l ≡ rows_of f (strips_at t s.first s.count) (part_of d r)) where
   gathered : l ≡ window (picture (stored f t s.first s.count) d.dims.x (sample_size d.kind)) r
+  unfolding stored
   gathered =
-      (rw (add-sub_cancel_left s.first s.count) at e)
+      e
+      ∙ span_cong r.y r.h (λ i. bytes (stored_in f (strips_at t s.first s.count)) (i * row_bytes d + r.x * sample_size d.kind) (r.w * sample_size d.kind))
+      (λ i. bytes (stored f t s.first s.count) (i * row_bytes d + r.x * sample_size d.kind) (r.w * sample_size d.kind))
+      (λ i lo hi.
+      bytes_cong (stored_in f (strips_at t s.first s.count)) (stored f t s.first s.count) (i * row_bytes d + r.x * sample_size d.kind) (r.w * sample_size d.kind)
+      (λ k lk uk. ap (λ (p : ℕ). get_or f p 0) (place_at t s.first s.count k)))
       ∙ sym (window_rows (stored f t s.first s.count) d.dims.x (sample_size d.kind) r)
 
   pub from_little : d.order ≡ little → l ≡ window (channel_picture d t f s) r
@@ -101,19 +105,20 @@ module _ (d : Description) (t f : List ℕ) (s : Strips) (r : Rect) (l : List �
       ∙ window_cong (picture (stored f t s.first s.count) d.dims.x (sample_size d.kind)) _ r
       (λ i j li ui lj uj. one_byte d.order _ (picture_length_lem _ d.dims.x (sample_size d.kind) i j ∙ o))
 
-  pub from_big : (out : List ℕ) → d.order ≡ big → out ≡ span 0 (r.h * r.w) (λ q. reverse (bytes (held l) (q * sample_size d.kind) (sample_size d.kind)))
-      → out ≡ window (channel_picture d t f s) r
+  pub from_big : (out : List ℕ) (n : ℕ) → d.order ≡ big → sample_size d.kind ≡ n → 0 < n → length l ≡ picture_bytes r.w r.h d.kind
+      → out ≡ span 0 (length l / n) (λ q. reverse (bytes (held l) (q * n) n)) → out ≡ window (channel_picture d t f s) r
   unfolding channel_picture
-  from_big out o turned =
+  from_big out n o k p z turned =
+      let many : length l / n ≡ r.h * r.w = rw (z, k, size_samples) (mul-div_cancel (r.h * r.w) p) in
       rw o
-      (turned ∙ ap (λ (k : List ℕ). span 0 (r.h * r.w) (λ q. reverse (bytes (held k) (q * sample_size d.kind) (sample_size d.kind)))) gathered
+      (turned ∙ rw (many, ← k) (ap (λ (g : List ℕ). span 0 (r.h * r.w) (λ q. reverse (bytes (held g) (q * sample_size d.kind) (sample_size d.kind)))) gathered)
       ∙ window_each reverse _ (sample_size d.kind) r (λ i j li ui lj uj. picture_length_lem _ d.dims.x (sample_size d.kind) i j))
 
 -- ---- the sample buffer
 
-pub pictured_refused : (s : Result Samples) (row lent : List ℕ) → s ≡ refused row → Pictured s lent lent (refused row)
+pub pictured_refused : (s : Result Samples) (row lent : List ℕ) (answer : Result (ℕ × ℕ × ℕ)) → s ≡ refused row → answer ≡ refused row → Pictured s lent lent answer
 unfolding into bind
-pictured_refused s row lent e = record { answered = rw e; memory = rw e }
+pictured_refused s row lent answer e h = record { answered = rw (h, e); memory = rw e }
 
 pub pictured_short : (a : Samples) (lent : List ℕ) (size : ℕ) → length a.bytes ≡ size → size < 2 ^ 64 → length lent < size
     → Pictured (accepted a) lent lent (refused (too_short size))
@@ -136,22 +141,25 @@ pictured_read a lent size e h =
       memory = rw (← e) (sym (filled_room a.bytes lent u));
     }
 
--- the samples of a rectangle: no room; room; none
-module _ (d : Description) (t f : List ℕ) (s : Strips) (r : Rect) (lent : List ℕ) (size : ℕ) (e : size ≡ picture_bytes r.w r.h d.kind) where
-  pub given_short : size < 2 ^ 64 → length lent < size → Pictured (accepted (samples_in d t f r s)) lent lent (refused (too_short size))
-  given_short fits h = pictured_short (samples_in d t f r s) lent size (samples_length d t f s r ∙ sym e) fits h
+-- the samples of a rectangle, of n bytes each: no room; room; none
+module _ (d : Description) (t f : List ℕ) (s : Strips) (r : Rect) (lent : List ℕ) (n : ℕ) (e : n ≡ sample_size d.kind) where
+  sized : length (samples_in d t f r s).bytes ≡ r.w * r.h * n
+  sized = samples_length d t f s r ∙ sym (ap (λ (k : ℕ). r.w * r.h * k) e)
 
-  pub given_read : (out : List ℕ) → size ≤ length lent → out ≡ window (channel_picture d t f s) r
-      → Pictured (accepted (samples_in d t f r s)) lent (out ++ drop size lent) (accepted (r.h, r.w, size))
+  pub given_short : picture_bytes r.w r.h d.kind < 2 ^ 64 → length lent < r.w * r.h * n
+      → Pictured (accepted (samples_in d t f r s)) lent lent (refused (too_short (r.w * r.h * n)))
+  given_short fits h = pictured_short (samples_in d t f r s) lent (r.w * r.h * n) sized (rw e fits) h
+
+  pub given_read : (out : List ℕ) → r.w * r.h * n ≤ length lent → out ≡ window (channel_picture d t f s) r
+      → Pictured (accepted (samples_in d t f r s)) lent (out ++ drop (r.w * r.h * n) lent) (accepted (r.h, r.w, r.w * r.h * n))
   unfolding samples_in
-  given_read out h q = rw q (pictured_read (samples_in d t f r s) lent size (samples_length d t f s r ∙ sym e) h)
+  given_read out h q = rw q (pictured_read (samples_in d t f r s) lent (r.w * r.h * n) sized h)
 
-  pub given_none : size ≡ 0 → Pictured (accepted (samples_in d t f r s)) lent lent (accepted (r.h, r.w, size))
+  pub given_none : r.w * r.h * n ≡ 0 → Pictured (accepted (samples_in d t f r s)) lent lent (accepted (r.h, r.w, r.w * r.h * n))
   unfolding samples_in
   given_none z =
-      let n : length (window (channel_picture d t f s) r) ≡ 0 = samples_length d t f s r ∙ sym e ∙ z in
-      let p = given_read [] (omega arith) (sym (no_bytes (window (channel_picture d t f s) r) n)) in
-      subst (λ (k : ℕ). Pictured (accepted (samples_in d t f r s)) lent (drop k lent) (accepted (r.h, r.w, size))) z p
+      let p = given_read [] (omega arith) (sym (no_bytes (window (channel_picture d t f s) r) (sized ∙ z))) in
+      subst (λ (k : ℕ). Pictured (accepted (samples_in d t f r s)) lent (drop k lent) (accepted (r.h, r.w, r.w * r.h * n))) z p
 
 pub pictured_as : {s s' : Result Samples} {before after : List ℕ} {answer : Result (ℕ × ℕ × ℕ)} → s ≡ s'
     → Pictured s' before after answer → Pictured s before after answer

@@ -20,16 +20,6 @@ take_put_add a m xs ys h e =
 pub part_length : (a m : ℕ) (out : List ℕ) → a + m ≤ length out → length (take (a + m - a) (drop a out)) ≡ m
 part_length a m out h = rw add-sub_cancel_left (length-take-le m (drop a out) (rw length-drop (omega arith)))
 
--- of what is left after a, some is left, and any part of it fits
-pub less_leaves : {a n : ℕ} → a < n → 0 < n - a
-less_leaves h = omega arith
-
-pub less_fits : {a n m : ℕ} → a < n → m ≤ n - a → a + m ≤ n
-less_fits h k = omega arith
-
-pub less_by : (was is a m r : ℕ) → is ≡ was → 0 < m → a + m ≤ was → is - (a + m) + r < was - a + r
-less_by was is a m r e h fits = omega arith
-
 pub part_in : (h part i : ℕ) → i < h → i * part + part ≤ h * part
 part_in h part i l = omega (arith, suc-mul i part, mul-le-mul_right part l)
 
@@ -50,30 +40,10 @@ parts_done g y i h part out l u e so_far =
 
 -- ---- one sample turned around
 
-pub no : {A : Type 0} → ⊥ → A
-no z = absurd z
-
 pub flip_one : (l : List ℕ) → length l ≡ 1 → l ≡ reverse l
-flip_one [] e = no (omega arith)
+flip_one [] e = absurd (omega arith)
 flip_one (a ∷ []) e = refl
-flip_one (a ∷ b ∷ r) e = no (omega arith)
-
-abbrev pub swap : List ℕ → ℕ → ℕ → List ℕ
-swap l i j = set (set l i (get_or l j 0)) j (get_or l i 0)
-
-pub flip_two : (l : List ℕ) → length l ≡ 2 → swap l 0 1 ≡ reverse l
-flip_two [] e = no (omega arith)
-flip_two (a ∷ []) e = no (omega arith)
-flip_two (a ∷ b ∷ []) e = refl
-flip_two (a ∷ b ∷ c ∷ r) e = no (omega arith)
-
-pub flip_four : (l : List ℕ) → length l ≡ 4 → swap (swap l 0 3) 1 2 ≡ reverse l
-flip_four [] e = no (omega arith)
-flip_four (a ∷ []) e = no (omega arith)
-flip_four (a ∷ b ∷ []) e = no (omega arith)
-flip_four (a ∷ b ∷ c ∷ []) e = no (omega arith)
-flip_four (a ∷ b ∷ c ∷ d ∷ []) e = refl
-flip_four (a ∷ b ∷ c ∷ d ∷ f ∷ r) e = no (omega arith)
+flip_one (a ∷ b ∷ r) e = absurd (omega arith)
 
 -- ---- sample q is as it was, and is turned around
 

@@ -1,3 +1,3 @@
 pub mod Filling
-pub mod Walking
+pub mod Copying
 pub mod Answering

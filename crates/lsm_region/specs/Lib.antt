@@ -1,3 +1,3 @@
 pub mod Code
 pub mod Ready
-pub mod Cursor
+pub mod Rows

@@ -5,19 +5,18 @@ mod copier;
 
 ghost use Rattle.std.specs.Prelude.{length};
 ghost use Rattle.lsm_format.specs.Answer.{accepted};
-ghost use Rattle.lsm_format.specs.Code.{rect_of};
-ghost use Rattle.lsm_format.specs.Rectangle.{coordinate};
+ghost use Rattle.lsm_format.specs.Code.{answer_by, rect_of, coordinate_of};
 ghost use Rattle.lsm_format.specs.Picture as Rule;
 ghost use Rattle.lsm_description.specs.Code.{description_of};
 ghost use Rattle.lsm_strips.specs.Parts.{strips_of};
-ghost use Rattle.lsm_region.specs.Code.{answer_of, Pictured};
+ghost use Rattle.lsm_region.specs.Code.{shape_of_picture, Pictured};
 ghost use Rattle.lsm_region.specs.Ready.{Ready};
 
 use crate::copier::fill;
 use lsm_description::Description;
 use lsm_format::error::Refusal;
 use lsm_format::types::{Coordinate, PixelRect};
-use lsm_strips::{Found, StripRun, plane_from, region_from};
+use lsm_strips::{StripRun, plane_from, region_from};
 
 // The rows and columns of what was read, and how many bytes were written.
 #[derive(Clone, Copy)]
@@ -27,39 +26,32 @@ pub struct Picture {
     pub bytes: usize,
 }
 
-#[derive(Clone, Copy)]
-pub enum PictureAnswer {
-    Read(Picture),
-    Refused(Refusal),
-}
-
 // The last check, and the samples. Nothing is written before it.
 fn deliver(
     buf: &[u8],
     d: Description,
     table: &[usize],
-    strips: StripRun,
+    run: StripRun,
     rect: PixelRect,
     out: &mut [u8],
-) -> PictureAnswer
-    requires { Ready (description_of d) table.now (length buf.now) (strips_of strips) (rect_of rect) }
-    ensures { Pictured (accepted (Rule.samples_in (description_of d) table.now buf.now (rect_of rect) (strips_of strips))) out.old out.new (answer_of result) }
+) -> Result<Picture, Refusal>
+    requires { Ready (description_of d) table.now (length buf.now) (strips_of run) (rect_of rect) }
+    ensures { Pictured (accepted (Rule.samples_in (description_of d) table.now buf.now (rect_of rect) (strips_of run))) out.old out.new (answer_by shape_of_picture result) }
 {
-    let dtype = d.dtype;
-    let size = rect.w * rect.h * dtype.size_bytes();
+    let size = rect.w * rect.h * d.dtype.size_bytes();
     let picture = Picture {
         height: rect.h,
         width: rect.w,
         bytes: size,
     };
     if out.len() < size {
-        return PictureAnswer::Refused(Refusal::TooShort { needed: size });
+        return Err(Refusal::TooShort { needed: size });
     }
     if size == 0 {
-        return PictureAnswer::Read(picture);
+        return Ok(picture);
     }
-    fill(buf, table, d, strips, rect, &mut out[..size]);
-    PictureAnswer::Read(picture)
+    fill(buf, d, table, run, rect, &mut out[..size]);
+    Ok(picture)
 }
 
 // A whole picture. Its samples are written to `out`, little-endian, row by row.
@@ -67,28 +59,19 @@ pub fn plane(
     buf: &[u8],
     d: Description,
     table: &[usize],
-    scene: usize,
-    t: usize,
-    c: usize,
-    z: usize,
+    co: Coordinate,
     out: &mut [u8],
-) -> PictureAnswer
-    ensures { Pictured (Rule.plane (description_of d) table.now buf.now (coordinate scene t c z)) out.old out.new (answer_of result) }
+) -> Result<Picture, Refusal>
+    ensures { Pictured (Rule.plane (description_of d) table.now buf.now (coordinate_of co)) out.old out.new (answer_by shape_of_picture result) }
 {
-    let dims = d.dims;
-    let co = Coordinate { scene, t, c, z };
-    match plane_from(d, table, buf.len(), co) {
-        Found::Strips(strips) => {
-            let whole = PixelRect {
-                x: 0,
-                y: 0,
-                w: dims.x,
-                h: dims.y,
-            };
-            deliver(buf, d, table, strips, whole, out)
-        }
-        Found::Refused(r) => PictureAnswer::Refused(r),
-    }
+    let run = plane_from(d, table, buf.len(), co)?;
+    let whole = PixelRect {
+        x: 0,
+        y: 0,
+        w: d.dims.x,
+        h: d.dims.y,
+    };
+    deliver(buf, d, table, run, whole, out)
 }
 
 // A rectangle of a picture, which may be one that is too large to be read whole. Its samples are written to `out`, little-endian, row
@@ -97,18 +80,12 @@ pub fn region(
     buf: &[u8],
     d: Description,
     table: &[usize],
-    scene: usize,
-    t: usize,
-    c: usize,
-    z: usize,
+    co: Coordinate,
     rect: PixelRect,
     out: &mut [u8],
-) -> PictureAnswer
-    ensures { Pictured (Rule.region (description_of d) table.now buf.now (coordinate scene t c z) (rect_of rect)) out.old out.new (answer_of result) }
+) -> Result<Picture, Refusal>
+    ensures { Pictured (Rule.region (description_of d) table.now buf.now (coordinate_of co) (rect_of rect)) out.old out.new (answer_by shape_of_picture result) }
 {
-    let co = Coordinate { scene, t, c, z };
-    match region_from(d, table, buf.len(), co, rect) {
-        Found::Strips(strips) => deliver(buf, d, table, strips, rect, out),
-        Found::Refused(unfit) => PictureAnswer::Refused(unfit),
-    }
+    let run = region_from(d, table, buf.len(), co, rect)?;
+    deliver(buf, d, table, run, rect, out)
 }

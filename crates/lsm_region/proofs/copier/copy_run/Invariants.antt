@@ -1,0 +1,13 @@
+use Prim.Native.Nat.{◌+◌, ◌≤◌}
+use mathlib.Core.Path.{◌≡◌}
+use lib.ListN.{length, take, drop}
+use Rattle.lsm_format.specs.Picture.{bytes}
+use Rattle.lsm_strips.specs.Strips.{Stands}
+use Rattle.lsm_region.specs.Rows.{stored_in}
+use Rattle.lsm_region.proofs.copier.copy_run.Given as goal
+
+-- `at` bytes are copied, and the next one is `into` bytes past the start of the strips that are left
+abbrev pub invariant-loop-offset : goal.invariant-loop-offset
+invariant-loop-offset l =
+    (l.at ≤ length l.out) × Stands l.cur.strips.now (l.cur.into + l.at) (drop l.offset-index l.cur.strips.now) l.into
+    × (take l.at l.out ≡ bytes (stored_in l.file l.cur.strips.now) l.cur.into l.at)
