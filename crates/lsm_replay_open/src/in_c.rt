@@ -1,71 +1,29 @@
 // The lines asked of the C functions: the number that is returned, every word of `answer`, and lent memory.
 ghost use Rattle.std.specs.Prelude.{◌≡◌, true, ◌≤◌, length};
-ghost use Rattle.lsm_words.specs.Answers.{open_length};
-ghost use Rattle.vectors.specs.Same.{same_answer};
 
+use crate::{NAME, TABLE, description_of};
 use lsm_c::{lsm_channel, lsm_open};
-use lsm_reader::open::{OpenAnswer, open_file};
 use lsm_words::answers::{CHANNEL_WORDS, OPEN_WORDS};
 use lsm_words::description::{DESCRIPTION_WORDS, description_words};
-use vectors::same::{BYTE, WORD, in_answer, same_answer, same_then_kept, words_then_kept};
-
-// The largest table and the longest name that a line asks for.
-const TABLE: usize = 64;
-
-const NAME: usize = 4096;
+use vectors::same::{BYTE, WORD, same_call};
 
 // The words of a channel's answer that a line says; the last is 0.
-const FOUND: usize = 7;
-
-// Whether the number returned, the answer and the table are what is said: the words of the answer, then those of the table.
-fn told(said: &[usize], number: usize, answer: [usize; OPEN_WORDS], table: &[usize]) -> bool
-    ensures { result ≡ true → same_answer said.now number answer open_length ≡ true }
-{
-    if same_answer(said, number, &answer, OPEN_WORDS) {
-        let n = in_answer(said.len(), OPEN_WORDS);
-        return words_then_kept(&said[n..], table, said.len() - n, WORD);
-    }
-    false
-}
-
-// Whether `lsm_open` with a table lent gives what is said.
-fn opened(said: &[usize], file: &[u8], table: &mut [usize]) -> bool
-    ensures { length table.new ≡ length table.old }
-{
-    let mut answer = [WORD; OPEN_WORDS];
-    let number = lsm_open(file, table, &mut answer);
-    told(said, number, answer, table)
-}
+pub const FOUND: usize = 7;
 
 // Whether `lsm_open` gives the line's answer.
 pub fn opening(said: &[usize], file: &[u8]) -> bool
     ensures { result ≡ true → 1 ≤ length said.now }
 {
-    if said.len() < 1 {
+    let [room, said @ ..] = said else {
         return false;
-    }
-    let room = said[0];
-    if TABLE < room {
+    };
+    let mut memory = [WORD; TABLE];
+    let Some(table) = memory.get_mut(..*room) else {
         return false;
-    }
-    let mut table = [WORD; TABLE];
-    opened(&said[1..], file, &mut table[..room])
-}
-
-// Whether the number returned, the answer and the name are what is said: the words of the answer, then the name's bytes.
-fn told_of_channel(
-    said: &[usize],
-    number: usize,
-    answer: [usize; CHANNEL_WORDS],
-    name: &[u8],
-) -> bool
-    ensures { result ≡ true → same_answer said.now number answer 7 ≡ true }
-{
-    if same_answer(said, number, &answer, FOUND) {
-        let n = in_answer(said.len(), FOUND);
-        return same_then_kept(&said[n..], name, said.len() - n);
-    }
-    false
+    };
+    let mut answer = [WORD; OPEN_WORDS];
+    let number = lsm_open(file, table, &mut answer);
+    same_call(said, number, &answer, OPEN_WORDS, table, WORD)
 }
 
 // Whether `lsm_channel` with room for a name lent gives what is said.
@@ -74,36 +32,28 @@ fn found(
     file: &[u8],
     description: &[usize; DESCRIPTION_WORDS],
     channel: usize,
-    name: &mut [u8],
-) -> bool
-    ensures { length name.new ≡ length name.old }
-{
+    room: usize,
+) -> bool {
+    let mut memory = [BYTE; NAME];
+    let Some(name) = memory.get_mut(..room) else {
+        return false;
+    };
     let mut answer = [WORD; CHANNEL_WORDS];
     let number = lsm_channel(file, description, channel, name, &mut answer);
-    told_of_channel(said, number, answer, name)
+    same_call(said, number, &answer, FOUND, name, BYTE)
 }
 
 // Whether the description that opening gives leads `lsm_channel` to the line's answer. A file that isn't opened leads to none.
 pub fn lookup(said: &[usize], file: &[u8]) -> bool
     ensures { result ≡ true → 2 ≤ length said.now }
 {
-    if said.len() < 2 {
+    let [c, room, said @ ..] = said else {
         return false;
-    }
-    let room = said[1];
-    if NAME < room {
+    };
+    let Some(d) = description_of(file) else {
         return false;
-    }
-    let mut table = [0usize; TABLE];
-    match open_file(file, &mut table) {
-        OpenAnswer::Opened(o) => {
-            let d = o.description;
-            let description = description_words(d);
-            let mut name = [BYTE; NAME];
-            found(&said[2..], file, &description, said[0], &mut name[..room])
-        }
-        OpenAnswer::Refused(_) => false,
-    }
+    };
+    found(said, file, &description_words(d), *c, *room)
 }
 
 // Whether `lsm_channel` gives the line's answer where a word of the description that opening gives is another: the word's place, its
@@ -111,26 +61,16 @@ pub fn lookup(said: &[usize], file: &[u8]) -> bool
 pub fn described(said: &[usize], file: &[u8]) -> bool
     ensures { result ≡ true → 4 ≤ length said.now }
 {
-    if said.len() < 4 {
+    let [place, value, c, room, said @ ..] = said else {
         return false;
-    }
-    let place = said[0];
-    let room = said[3];
-    if DESCRIPTION_WORDS <= place {
+    };
+    let Some(d) = description_of(file) else {
         return false;
-    }
-    if NAME < room {
+    };
+    let mut description = description_words(d);
+    let Some(word) = description.get_mut(*place) else {
         return false;
-    }
-    let mut table = [0usize; TABLE];
-    match open_file(file, &mut table) {
-        OpenAnswer::Opened(o) => {
-            let d = o.description;
-            let mut description = description_words(d);
-            description[place] = said[1];
-            let mut name = [BYTE; NAME];
-            found(&said[4..], file, &description, said[2], &mut name[..room])
-        }
-        OpenAnswer::Refused(_) => false,
-    }
+    };
+    *word = *value;
+    found(said, file, &description, *c, *room)
 }

@@ -4,69 +4,28 @@
 // (tools/wrong_lines.py).
 #![tactic(auto)]
 
-ghost use Rattle.std.specs.Prelude.{◌≡◌, true, ◌<◌, ◌≤◌, length};
+ghost use Rattle.std.specs.Prelude.{◌≡◌, ◌+◌, ◌≤◌, length};
 
 use buffers::{read_full, zeros};
+use lsm_description::Description;
+use lsm_reader::open::open_file;
 use std::io;
 use vectors::report::{Tally, report};
+use vectors::text::Lines;
 
 mod in_c;
 mod lookup;
 mod opening;
 
-// Whether the answer is the line's. A letter that stands for nothing differs.
-fn agrees(letter: u8, said: &[usize], file: &[u8]) -> bool
-    ensures { result ≡ true → 1 ≤ length said.now }
-{
-    if letter == b'o' {
-        return opening::opening(said, file);
-    }
-    if letter == b'n' {
-        return lookup::lookup(said, file);
-    }
-    false
-}
+// The largest table and the longest name that a line asks for.
+const TABLE: usize = 64;
 
-// Whether the C function's answer is the line's.
-fn agrees_in_c(letter: u8, said: &[usize], file: &[u8]) -> bool
-    ensures { result ≡ true → 1 ≤ length said.now }
-{
-    if letter == b'o' {
-        return in_c::opening(said, file);
-    }
-    if letter == b'n' {
-        return in_c::lookup(said, file);
-    }
-    if letter == b'w' {
-        return in_c::described(said, file);
-    }
-    false
-}
+const NAME: usize = 4096;
 
-// A line: its letter, whether the answer and the C function's are as it says, and where the next begins.
-#[derive(Clone, Copy)]
-struct Told {
-    letter: u8,
-    agrees: bool,
-    in_c: bool,
-    next: usize,
-}
-
-fn told_at(text: &[u8], at: usize) -> Told
-    requires { at < length text.now }
-    ensures { (at < result.next) × (result.next ≤ length text.now) }
-{
-    let mut numbers = [0usize; 4096];
-    let mut bytes = [0u8; 4096];
-    let line = vectors::text::line_at(text, at, &mut numbers, &mut bytes);
-    let count = line.count;
-    let len = line.len;
-    Told {
-        letter: line.kind,
-        agrees: agrees(line.kind, &numbers[..count], &bytes[..len]),
-        in_c: agrees_in_c(line.kind, &numbers[..count], &bytes[..len]),
-        next: line.next,
-    }
+// The description that opening a file gives. A file that isn't opened has none.
+fn description_of(file: &[u8]) -> Option<Description> {
+    let opened = open_file(file, &mut [0; TABLE]).ok()?;
+    Some(opened.description)
 }
 
 // How the functions' answers compare, and the C functions'.
@@ -79,30 +38,32 @@ struct Tallies {
     described: Tally,
 }
 
+// What a line asks for goes by its letter. A letter that stands for nothing differs.
 fn compare(text: &[u8]) -> Tallies
-    ensures cases_in_bounds { (result.openings.cases ≤ length text.now) × (result.openings.differ ≤ result.openings.cases) }
-    ensures cases_in_bounds_2 { (result.lookups.cases ≤ length text.now) × (result.lookups.differ ≤ result.lookups.cases) }
-    ensures cases_value { (result.opened.cases ≡ result.openings.cases) × (result.opened.differ ≤ result.opened.cases) }
-    ensures cases_value_2 { (result.found.cases ≡ result.lookups.cases) × (result.found.differ ≤ result.found.cases) }
-    ensures cases_in_bounds_3 { (result.described.cases ≤ length text.now) × (result.described.differ ≤ result.described.cases) }
+    ensures lines { result.openings.cases + result.lookups.cases + result.described.cases ≤ length text.now }
+    ensures opened { result.opened.cases ≡ result.openings.cases }
+    ensures found { result.found.cases ≡ result.lookups.cases }
 {
-    let mut openings = Tally::none();
-    let mut lookups = Tally::none();
-    let mut opened = Tally::none();
-    let mut found = Tally::none();
-    let mut described = Tally::none();
-    let mut at = 0;
-    while at < text.len() {
-        let t = told_at(text, at);
-        at = t.next;
-        if t.letter == b'n' {
-            lookups = lookups.counted(t.agrees);
-            found = found.counted(t.in_c);
-        } else if t.letter == b'w' {
-            described = described.counted(t.in_c);
-        } else {
-            openings = openings.counted(t.agrees);
-            opened = opened.counted(t.in_c);
+    let mut openings = Tally::default();
+    let mut lookups = Tally::default();
+    let mut opened = Tally::default();
+    let mut found = Tally::default();
+    let mut described = Tally::default();
+    for line in Lines::<4096, 4096>::new(text) {
+        match line.letter {
+            b'n' => {
+                lookups.count(line.agrees(lookup::lookup));
+                found.count(line.agrees(in_c::lookup));
+            }
+            b'w' => described.count(line.agrees(in_c::described)),
+            b'o' => {
+                openings.count(line.agrees(opening::opening));
+                opened.count(line.agrees(in_c::opening));
+            }
+            _ => {
+                openings.count(false);
+                opened.count(false);
+            }
         }
     }
     Tallies {
@@ -119,9 +80,9 @@ fn main(rt: HostRuntime) -> io::Result<()> {
     let n = read_full(&mut rt.stdin(), &mut text)?;
     let t = compare(&text[..n]);
     let mut out = rt.stdout();
-    report(&mut out, b"openings ", t.openings)?;
-    report(&mut out, b"channels ", t.lookups)?;
-    report(&mut out, b"openings in C ", t.opened)?;
-    report(&mut out, b"channels in C ", t.found)?;
-    report(&mut out, b"descriptions in C ", t.described)
+    report(&mut out, "openings ", t.openings)?;
+    report(&mut out, "channels ", t.lookups)?;
+    report(&mut out, "openings in C ", t.opened)?;
+    report(&mut out, "channels in C ", t.found)?;
+    report(&mut out, "descriptions in C ", t.described)
 }

@@ -1,61 +1,18 @@
 // A line `o`: the table's room in words, and the answer that opening the line's file gives.
 ghost use Rattle.std.specs.Prelude.{◌≡◌, true, ◌≤◌, length};
-ghost use Rattle.lsm_format.specs.Code.{row_of};
-ghost use Rattle.lsm_words.specs.Answers.{open_length};
 
-use lsm_format::error::Refusal;
-use lsm_reader::open::{OpenAnswer, Opened, open_file};
-use lsm_words::answers::OPEN_WORDS;
-use lsm_words::description::description_words;
-use vectors::same::{WORD, kept_words, same_front, same_words, words_then_kept};
+use crate::TABLE;
+use lsm_reader::open::{Opened, open_file};
+use lsm_words::answers::open_words;
+use vectors::same::{WORD, kept, same_then_kept};
 
-// The largest table that a line asks for.
-const ROOM: usize = 64;
-
-// Whether a refusal's numbers are those said.
-pub fn refused(said: &[usize], r: Refusal) -> bool
-    ensures { result ≡ true → length said.now ≡ length (row_of r) }
-{
-    let row = r.numbers();
-    let numbers = row.numbers;
-    let len = row.len;
-    same_front(said, &numbers, len)
-}
-
-// Whether the numbers said are 0, the directories visited, the words of the table, the description and the table, and the words
-// past the table are as they were.
+// Whether the numbers said are the words of what was opened and the table's, and the words past the table are as they were.
 fn opened(said: &[usize], o: Opened, table: &[usize]) -> bool
-    ensures { (result ≡ true → open_length ≤ length said.now) × (result ≡ true → o.words ≤ length table.now) }
+    ensures { result ≡ true → o.words ≤ length table.now }
 {
-    let count = o.words;
-    if said.len() < OPEN_WORDS {
-        return false;
-    }
-    if table.len() < count {
-        return false;
-    }
-    if !same_words(&said[..3], &[0, o.visited, count]) {
-        return false;
-    }
-    let d = o.description;
-    if !same_words(&said[3..OPEN_WORDS], &description_words(d)) {
-        return false;
-    }
-    words_then_kept(&said[OPEN_WORDS..], table, count, WORD)
-}
-
-// Whether opening a file with a table lent gives what is said.
-fn answered(said: &[usize], file: &[u8], table: &mut [usize]) -> bool
-    ensures { length table.new ≡ length table.old }
-{
-    match open_file(file, table) {
-        OpenAnswer::Opened(o) => opened(said, o, table),
-        OpenAnswer::Refused(r) => {
-            if !kept_words(table, WORD) {
-                return false;
-            }
-            refused(said, r)
-        }
+    match said.strip_prefix(open_words(Ok(o)).as_slice()) {
+        Some(said) => same_then_kept(said, table, o.words, WORD),
+        None => false,
     }
 }
 
@@ -63,13 +20,15 @@ fn answered(said: &[usize], file: &[u8], table: &mut [usize]) -> bool
 pub fn opening(said: &[usize], file: &[u8]) -> bool
     ensures { result ≡ true → 1 ≤ length said.now }
 {
-    if said.len() < 1 {
+    let [room, said @ ..] = said else {
         return false;
-    }
-    let room = said[0];
-    if ROOM < room {
+    };
+    let mut memory = [WORD; TABLE];
+    let Some(table) = memory.get_mut(..*room) else {
         return false;
+    };
+    match open_file(file, table) {
+        Ok(o) => opened(said, o, table),
+        Err(r) => kept(table, WORD) && said == r.numbers().as_slice(),
     }
-    let mut table = [WORD; ROOM];
-    answered(&said[1..], file, &mut table[..room])
 }
