@@ -45,12 +45,23 @@ fn tell<W: Write>(out: &mut W, name: &str, file: &mut [u8]) -> io::Result<()>
     writeln!(out, "{name} directories: {number}")
 }
 
-// Both files in the memory, whose length is known from its type; the shorter one first.
+// The same with the first bytes of the memory, where there are as many.
+fn tell_of<W: Write>(out: &mut W, name: &str, bytes: usize, file: &mut [u8]) -> io::Result<()>
+    requires { 8 ≤ bytes }
+    ensures { length file.new ≡ length file.old }
+{
+    if bytes <= file.len() {
+        return tell(out, name, &mut file[..bytes]);
+    }
+    Ok(())
+}
+
+// Both files in the memory, whose length is known from its type.
 fn tell_both<W: Write>(out: &mut W, file: &mut [u8; ROOM]) -> io::Result<()>
     ensures { length file.new ≡ length file.old }
 {
-    tell(out, "1000000", &mut file[..ROOM - DIRECTORY])?;
-    tell(out, "1000001", file)
+    tell_of(out, "1000000", ROOM - DIRECTORY, file)?;
+    tell_of(out, "1000001", ROOM, file)
 }
 
 fn main(rt: HostRuntime) -> io::Result<()> {
