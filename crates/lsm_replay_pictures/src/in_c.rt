@@ -1,19 +1,13 @@
 // The lines asked of the C functions: the number that is returned, every word of `answer`, and lent memory.
 ghost use Rattle.std.specs.Prelude.{◌≡◌, true, ◌+◌, ◌≤◌, length};
-ghost use Rattle.vectors.specs.Same.{same_answer};
 ghost use Rattle.lsm_words.specs.Description.{description_length};
 ghost use Rattle.lsm_replay_pictures.specs.Code.{said_words};
 
+use crate::picture::{ROOM, of_opened};
 use lsm_c::pictures::{lsm_plane, lsm_region};
 use lsm_words::answers::PICTURE_WORDS;
-use lsm_words::description::DESCRIPTION_WORDS;
-use vectors::same::{BYTE, WORD, in_answer, same_answer, same_then_kept};
-
-// Where the table's length stands in a line that hands in a description: behind the room and the description's words.
-const TABLE: usize = 1 + DESCRIPTION_WORDS;
-
-// The largest sample buffer that a line lends.
-const ROOM: usize = 1024;
+use lsm_words::description::{DESCRIPTION_WORDS, description_words};
+use vectors::same::{BYTE, WORD, same_call};
 
 // How many words of an answer a line says at most: 0, the height, the width and the number of bytes, or a refusal's five.
 fn said_words(number: usize) -> usize
@@ -22,19 +16,7 @@ fn said_words(number: usize) -> usize
     if number == 0 { 4 } else { 5 }
 }
 
-// Whether the number returned, the answer and the samples are what is said: the words of the answer, then the samples' bytes.
-fn told(said: &[usize], number: usize, answer: [usize; PICTURE_WORDS], out: &[u8]) -> bool
-    ensures { result ≡ true → same_answer said.now number answer (said_words number) ≡ true }
-{
-    let most = said_words(number);
-    if same_answer(said, number, &answer, most) {
-        let n = in_answer(said.len(), most);
-        return same_then_kept(&said[n..], out, said.len() - n);
-    }
-    false
-}
-
-// Whether what is said is `lsm_plane`'s answer.
+// Whether what is said is `lsm_plane`'s answer, and the samples.
 fn plane_agrees(
     said: &[usize],
     file: &[u8],
@@ -44,25 +26,25 @@ fn plane_agrees(
 ) -> bool
     ensures { result ≡ true → 4 ≤ length said.now }
 {
-    if said.len() < 4 {
+    let [scene, t, c, z, said @ ..] = said else {
         return false;
-    }
+    };
     let mut answer = [WORD; PICTURE_WORDS];
     let number = lsm_plane(
         file,
         description,
         table,
-        said[0],
-        said[1],
-        said[2],
-        said[3],
+        *scene,
+        *t,
+        *c,
+        *z,
         out,
         &mut answer,
     );
-    told(&said[4..], number, answer, out)
+    same_call(said, number, &answer, said_words(number), out, BYTE)
 }
 
-// Whether what is said is `lsm_region`'s answer.
+// Whether what is said is `lsm_region`'s answer, and the samples.
 fn region_agrees(
     said: &[usize],
     file: &[u8],
@@ -72,85 +54,80 @@ fn region_agrees(
 ) -> bool
     ensures { result ≡ true → 8 ≤ length said.now }
 {
-    if said.len() < 8 {
+    let [scene, t, c, z, x, y, w, h, said @ ..] = said else {
         return false;
-    }
+    };
     let mut answer = [WORD; PICTURE_WORDS];
     let number = lsm_region(
         file,
         description,
         table,
-        said[0],
-        said[1],
-        said[2],
-        said[3],
-        said[4],
-        said[5],
-        said[6],
-        said[7],
+        *scene,
+        *t,
+        *c,
+        *z,
+        *x,
+        *y,
+        *w,
+        *h,
         out,
         &mut answer,
     );
-    told(&said[8..], number, answer, out)
+    same_call(said, number, &answer, said_words(number), out, BYTE)
 }
 
-// Whether what is said is the answer to what the letter stands for: `p` and `q` are planes, `r` and `h` rectangles. Another letter differs.
-pub fn answered(
-    letter: u8,
+pub fn plane_of(said: &[usize], file: &[u8]) -> bool
+    ensures { result ≡ true → 1 ≤ length said.now }
+{
+    of_opened(said, file, |said, file, d, table, out| {
+        plane_agrees(said, file, &description_words(d), table, out)
+    })
+}
+
+pub fn region_of(said: &[usize], file: &[u8]) -> bool
+    ensures { result ≡ true → 1 ≤ length said.now }
+{
+    of_opened(said, file, |said, file, d, table, out| {
+        region_agrees(said, file, &description_words(d), table, out)
+    })
+}
+
+// Asks with the description and the table that the line hands in: the room, the description, the table's length and the table come first.
+fn of_handed<F: Fn(&[usize], &[u8], &[usize; DESCRIPTION_WORDS], &[usize], &mut [u8]) -> bool>(
     said: &[usize],
     file: &[u8],
-    description: &[usize; DESCRIPTION_WORDS],
-    table: &[usize],
-    out: &mut [u8],
+    ask: F,
 ) -> bool
-    ensures { result ≡ true → 4 ≤ length said.now }
-{
-    match letter {
-        b'p' | b'q' => plane_agrees(said, file, description, table, out),
-        b'r' | b'h' => region_agrees(said, file, description, table, out),
-        _ => false,
-    }
-}
-
-// The description that these words are.
-fn description_of(said: &[usize]) -> [usize; DESCRIPTION_WORDS]
-    requires { length said.now ≡ description_length }
-    ensures { length result ≡ description_length }
-{
-    let mut words = [0usize; DESCRIPTION_WORDS];
-    let mut i = 0;
-    while i < DESCRIPTION_WORDS {
-        words[i] = said[i];
-        i += 1;
-    }
-    words
-}
-
-// Whether the description and the table that the line hands in lead the C function to the line's answer: the room, the description, the
-// table's length and the table come first.
-pub fn handed(letter: u8, said: &[usize], file: &[u8]) -> bool
+    requires { F.IsAlwaysCallable ask }
     ensures { result ≡ true → 2 + description_length ≤ length said.now }
 {
-    if said.len() <= TABLE {
+    let [room, said @ ..] = said else {
         return false;
-    }
-    let room = said[0];
-    if ROOM < room {
+    };
+    let Some((description, said)) = said.split_first_chunk::<DESCRIPTION_WORDS>() else {
         return false;
-    }
-    let words = said[TABLE];
-    let rest = &said[1 + TABLE..];
-    if rest.len() < words {
+    };
+    let [words, said @ ..] = said else {
         return false;
+    };
+    let Some((table, said)) = said.split_at_checked(*words) else {
+        return false;
+    };
+    let mut memory = [BYTE; ROOM];
+    match memory.get_mut(..*room) {
+        Some(out) => ask(said, file, description, table, out),
+        None => false,
     }
-    let description = description_of(&said[1..TABLE]);
-    let mut out = [BYTE; ROOM];
-    answered(
-        letter,
-        &rest[words..],
-        file,
-        &description,
-        &rest[..words],
-        &mut out[..room],
-    )
+}
+
+pub fn plane_handed(said: &[usize], file: &[u8]) -> bool
+    ensures { result ≡ true → 2 + description_length ≤ length said.now }
+{
+    of_handed(said, file, plane_agrees)
+}
+
+pub fn region_handed(said: &[usize], file: &[u8]) -> bool
+    ensures { result ≡ true → 2 + description_length ≤ length said.now }
+{
+    of_handed(said, file, region_agrees)
 }

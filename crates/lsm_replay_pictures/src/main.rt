@@ -4,55 +4,15 @@
 // that are wrong on purpose (tools/wrong_lines.py).
 #![tactic(auto)]
 
-ghost use Rattle.std.specs.Prelude.{◌≡◌, true, ◌<◌, ◌≤◌, length};
+ghost use Rattle.std.specs.Prelude.{◌≡◌, ◌+◌, ◌≤◌, length};
 
-use crate::picture::{Both, answers};
 use buffers::{read_full, zeros};
 use std::io;
 use vectors::report::{Tally, report};
+use vectors::text::Lines;
 
 mod in_c;
 mod picture;
-
-// Whether the function's answer is the line's, and the C function's. What a line hands in itself is asked of the C function alone.
-fn asked(letter: u8, said: &[usize], file: &[u8]) -> Both
-    ensures { (result.agrees ≡ true → 1 ≤ length said.now) × (result.in_c ≡ true → 1 ≤ length said.now) }
-{
-    match letter {
-        b'q' | b'h' => Both {
-            agrees: false,
-            in_c: in_c::handed(letter, said, file),
-        },
-        _ => answers(letter, said, file),
-    }
-}
-
-// A line: its letter, whether the answer and the C function's are as it says, and where the next begins.
-#[derive(Clone, Copy)]
-struct Told {
-    letter: u8,
-    agrees: bool,
-    in_c: bool,
-    next: usize,
-}
-
-fn told_at(text: &[u8], at: usize) -> Told
-    requires { at < length text.now }
-    ensures { (at < result.next) × (result.next ≤ length text.now) }
-{
-    let mut numbers = [0usize; 1024];
-    let mut bytes = [0u8; 4096];
-    let line = vectors::text::line_at(text, at, &mut numbers, &mut bytes);
-    let count = line.count;
-    let len = line.len;
-    let told = asked(line.kind, &numbers[..count], &bytes[..len]);
-    Told {
-        letter: line.kind,
-        agrees: told.agrees,
-        in_c: told.in_c,
-        next: line.next,
-    }
-}
 
 // How the functions' answers compare, and the C functions'.
 #[derive(Clone, Copy)]
@@ -64,30 +24,30 @@ struct Tallies {
     handed: Tally,
 }
 
+// What a line asks for goes by its letter. A letter that stands for nothing differs.
 fn compare(text: &[u8]) -> Tallies
-    ensures cases_in_bounds { (result.planes.cases ≤ length text.now) × (result.planes.differ ≤ result.planes.cases) }
-    ensures cases_in_bounds_2 { (result.rectangles.cases ≤ length text.now) × (result.rectangles.differ ≤ result.rectangles.cases) }
-    ensures cases_value { (result.pictured.cases ≡ result.planes.cases) × (result.pictured.differ ≤ result.pictured.cases) }
-    ensures cases_value_2 { (result.windowed.cases ≡ result.rectangles.cases) × (result.windowed.differ ≤ result.windowed.cases) }
-    ensures cases_in_bounds_3 { (result.handed.cases ≤ length text.now) × (result.handed.differ ≤ result.handed.cases) }
+    ensures lines { result.planes.cases + result.rectangles.cases + result.handed.cases ≤ length text.now }
+    ensures pictured { result.pictured.cases ≡ result.planes.cases }
+    ensures windowed { result.windowed.cases ≡ result.rectangles.cases }
 {
-    let mut planes = Tally::none();
-    let mut rectangles = Tally::none();
-    let mut pictured = Tally::none();
-    let mut windowed = Tally::none();
-    let mut handed = Tally::none();
-    let mut at = 0;
-    while at < text.len() {
-        let t = told_at(text, at);
-        at = t.next;
-        if t.letter == b'p' {
-            planes = planes.counted(t.agrees);
-            pictured = pictured.counted(t.in_c);
-        } else if t.letter == b'r' {
-            rectangles = rectangles.counted(t.agrees);
-            windowed = windowed.counted(t.in_c);
-        } else {
-            handed = handed.counted(t.in_c);
+    let mut planes = Tally::default();
+    let mut rectangles = Tally::default();
+    let mut pictured = Tally::default();
+    let mut windowed = Tally::default();
+    let mut handed = Tally::default();
+    for line in Lines::<1024, 4096>::new(text) {
+        match line.letter {
+            b'p' => {
+                planes.count(line.agrees(picture::plane_of));
+                pictured.count(line.agrees(in_c::plane_of));
+            }
+            b'r' => {
+                rectangles.count(line.agrees(picture::region_of));
+                windowed.count(line.agrees(in_c::region_of));
+            }
+            b'q' => handed.count(line.agrees(in_c::plane_handed)),
+            b'h' => handed.count(line.agrees(in_c::region_handed)),
+            _ => handed.count(false),
         }
     }
     Tallies {
@@ -104,9 +64,9 @@ fn main(rt: HostRuntime) -> io::Result<()> {
     let n = read_full(&mut rt.stdin(), &mut text)?;
     let t = compare(&text[..n]);
     let mut out = rt.stdout();
-    report(&mut out, b"planes ", t.planes)?;
-    report(&mut out, b"rectangles ", t.rectangles)?;
-    report(&mut out, b"planes in C ", t.pictured)?;
-    report(&mut out, b"rectangles in C ", t.windowed)?;
-    report(&mut out, b"handed in, in C ", t.handed)
+    report(&mut out, "planes ", t.planes)?;
+    report(&mut out, "rectangles ", t.rectangles)?;
+    report(&mut out, "planes in C ", t.pictured)?;
+    report(&mut out, "rectangles in C ", t.windowed)?;
+    report(&mut out, "handed in, in C ", t.handed)
 }

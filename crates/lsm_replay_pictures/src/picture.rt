@@ -1,57 +1,57 @@
 // A line: the sample buffer's room in bytes, the coordinates, for a rectangle its four numbers, and the answer.
-ghost use Rattle.std.specs.Prelude.{◌≡◌, true, ◌+◌, ◌≤◌, length};
-ghost use Rattle.lsm_format.specs.Code.{row_of};
+ghost use Rattle.std.specs.Prelude.{◌≡◌, true, ◌≤◌, length};
 ghost use Rattle.lsm_replay_pictures.specs.Code.{count_of};
 
-use crate::in_c;
 use lsm_description::Description;
 use lsm_format::error::Refusal;
-use lsm_format::types::PixelRect;
-use lsm_reader::open::{OpenAnswer, open_file};
-use lsm_region::{Picture, PictureAnswer, plane, region};
-use lsm_words::description::description_words;
-use vectors::same::{BYTE, kept_bytes, same_front, same_then_kept, same_words};
+use lsm_format::types::{Coordinate, PixelRect};
+use lsm_reader::open::open_file;
+use lsm_region::{Picture, plane, region};
+use lsm_words::answers::picture_words;
+use vectors::same::{BYTE, kept, same_then_kept};
 
 // The largest sample buffer that a line lends, and the words of the table.
-const ROOM: usize = 1024;
+pub const ROOM: usize = 1024;
 
 const WORDS: usize = 256;
 
-// Whether the numbers said are 0, the height, the width, the number of bytes and the bytes, and the bytes past them are as they
-// were.
-fn read(said: &[usize], p: Picture, out: &[u8]) -> bool
-    ensures { result ≡ true → (length said.now ≡ 4 + p.bytes) × (p.bytes ≤ length out.now) }
+// Asks with the description and the table that opening the line's file gives, and with room for the samples. A file that isn't opened
+// agrees with nothing.
+pub fn of_opened<F: Fn(&[usize], &[u8], Description, &[usize], &mut [u8]) -> bool>(
+    said: &[usize],
+    file: &[u8],
+    ask: F,
+) -> bool
+    requires { F.IsAlwaysCallable ask }
+    ensures { result ≡ true → 1 ≤ length said.now }
 {
-    let n = p.bytes;
-    if said.len() < 4 {
+    let [room, said @ ..] = said else {
         return false;
-    }
-    if !same_words(&said[..4], &[0, p.height, p.width, n]) {
+    };
+    let mut table = [0; WORDS];
+    let Ok(o) = open_file(file, &mut table) else {
         return false;
+    };
+    let Some(table) = table.get(..o.words) else {
+        return false;
+    };
+    let mut memory = [BYTE; ROOM];
+    match memory.get_mut(..*room) {
+        Some(out) => ask(said, file, o.description, table, out),
+        None => false,
     }
-    same_then_kept(&said[4..], out, n)
 }
 
-// Whether the numbers said are the refusal's, and every byte is as it was.
-fn refused(said: &[usize], r: Refusal, out: &[u8]) -> bool
-    ensures { result ≡ true → length said.now ≡ length (row_of r) }
-{
-    let row = r.numbers();
-    let numbers = row.numbers;
-    let len = row.len;
-    if !kept_bytes(out) {
-        return false;
-    }
-    same_front(said, &numbers, len)
-}
-
-// Whether what is said is the answer, with what the sample buffer holds after it.
-fn told(said: &[usize], a: PictureAnswer, out: &[u8]) -> bool
+// Whether what is said is the answer, with what the sample buffer holds after it: past the samples the bytes are as they were.
+fn told(said: &[usize], a: Result<Picture, Refusal>, out: &[u8]) -> bool
     ensures { result ≡ true → length said.now ≡ count_of a }
 {
     match a {
-        PictureAnswer::Read(p) => read(said, p, out),
-        PictureAnswer::Refused(r) => refused(said, r, out),
+        Ok(p) => match said.strip_prefix(&picture_words(a)[..4]) {
+            Some(samples) => same_then_kept(samples, out, p.bytes, BYTE),
+            None => false,
+        },
+        Err(r) => kept(out, BYTE) && said == r.numbers().as_slice(),
     }
 }
 
@@ -65,11 +65,16 @@ fn plane_agrees(
 ) -> bool
     ensures { result ≡ true → 4 ≤ length said.now }
 {
-    if said.len() < 4 {
+    let [scene, t, c, z, said @ ..] = said else {
         return false;
-    }
-    let a = plane(file, d, table, said[0], said[1], said[2], said[3], out);
-    told(&said[4..], a, out)
+    };
+    let co = Coordinate {
+        scene: *scene,
+        t: *t,
+        c: *c,
+        z: *z,
+    };
+    told(said, plane(file, d, table, co, out), out)
 }
 
 // Whether what is said is the answer to a rectangle.
@@ -82,88 +87,27 @@ fn region_agrees(
 ) -> bool
     ensures { result ≡ true → 8 ≤ length said.now }
 {
-    if said.len() < 8 {
+    let [scene, t, c, z, x, y, w, h, said @ ..] = said else {
         return false;
-    }
-    let rect = PixelRect::new(said[4], said[5], said[6], said[7]);
-    let a = region(
-        file, d, table, said[0], said[1], said[2], said[3], rect, out,
-    );
-    told(&said[8..], a, out)
-}
-
-// Whether what is said is the answer to what the letter stands for. A letter that stands for nothing differs.
-fn answered(
-    letter: u8,
-    said: &[usize],
-    file: &[u8],
-    d: Description,
-    table: &[usize],
-    out: &mut [u8],
-) -> bool
-    ensures { result ≡ true → 4 ≤ length said.now }
-{
-    if letter == b'p' {
-        return plane_agrees(said, file, d, table, out);
-    }
-    if letter == b'r' {
-        return region_agrees(said, file, d, table, out);
-    }
-    false
-}
-
-// Whether the function's answer is the line's, and the C function's.
-#[derive(Clone, Copy)]
-pub struct Both {
-    pub agrees: bool,
-    pub in_c: bool,
-}
-
-// Whether the description and the table that opening the line's file gives lead both to the line's answer. A file that isn't opened leads
-// to none.
-pub fn answers(letter: u8, said: &[usize], file: &[u8]) -> Both
-    ensures { (result.agrees ≡ true → 1 ≤ length said.now) × (result.in_c ≡ true → 1 ≤ length said.now) }
-{
-    let neither = Both {
-        agrees: false,
-        in_c: false,
     };
-    if said.len() < 1 {
-        return neither;
-    }
-    let room = said[0];
-    if ROOM < room {
-        return neither;
-    }
-    let mut table = [0usize; WORDS];
-    match open_file(file, &mut table) {
-        OpenAnswer::Opened(o) => {
-            let d = o.description;
-            let words = o.words;
-            if WORDS < words {
-                return neither;
-            }
-            let description = description_words(d);
-            let mut out = [BYTE; ROOM];
-            let agrees = answered(
-                letter,
-                &said[1..],
-                file,
-                d,
-                &table[..words],
-                &mut out[..room],
-            );
-            let mut c_out = [BYTE; ROOM];
-            let in_c = in_c::answered(
-                letter,
-                &said[1..],
-                file,
-                &description,
-                &table[..words],
-                &mut c_out[..room],
-            );
-            Both { agrees, in_c }
-        }
-        OpenAnswer::Refused(_) => neither,
-    }
+    let co = Coordinate {
+        scene: *scene,
+        t: *t,
+        c: *c,
+        z: *z,
+    };
+    let rect = PixelRect::new(*x, *y, *w, *h);
+    told(said, region(file, d, table, co, rect, out), out)
+}
+
+pub fn plane_of(said: &[usize], file: &[u8]) -> bool
+    ensures { result ≡ true → 1 ≤ length said.now }
+{
+    of_opened(said, file, plane_agrees)
+}
+
+pub fn region_of(said: &[usize], file: &[u8]) -> bool
+    ensures { result ≡ true → 1 ≤ length said.now }
+{
+    of_opened(said, file, region_agrees)
 }
