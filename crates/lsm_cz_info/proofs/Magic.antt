@@ -11,4 +11,3 @@ use Rattle.lsm_format.proofs.Told.{back}
 
 pub is_magic_lem : (z : ℤ) → mag z < 2 ^ 31 → of_z w32 z ≡ 0x0400_494C → is_magic z ≡ true
 is_magic_lem z h e = ap is_magic (sym (back z h) ∙ ap (to_z w32) e)
-
