@@ -70,7 +70,7 @@ impl<'a> Block<'a> {
         })
     }
 
-    // The number that starts at `at` in the block.
+    // The number that starts at `at` in the block. It and the next differ in the reader that they call: a generic one would need a trait for two.
     pub fn number(&self, at: usize) -> Result<i32, Refusal>
         requires { at < self.now.bytes }
         ensures { answer_of result ≡ i32_at (order_of self.now.endian) self.now.buf.now (self.now.start + at) }

@@ -76,6 +76,8 @@ fn region_agrees(
     same_call(said, number, &answer, said_words(number), out, BYTE)
 }
 
+// Each of these and of the next two says which function is asked, and nothing else.
+
 pub fn plane_of(said: &[usize], file: &[u8]) -> bool
     ensures { result ≡ true → 1 ≤ length said.now }
 {

@@ -35,7 +35,8 @@ impl Width {
     }
 }
 
-// What an entry says of its values: their type, how many they are, and where its four bytes for values stand.
+// What an entry says of its values: their type, how many they are, and where its four bytes for values stand. The buffer and the order stay
+// arguments beside it, as in lsm_bytes.
 #[derive(Clone, Copy)]
 pub struct Entry {
     pub ty: u16,

@@ -4,9 +4,9 @@ ghost use Rattle.lsm_format.specs.Code.{row_of, answer_by};
 ghost use Rattle.lsm_channel_colors.specs.Code.{meta_of};
 ghost use Rattle.lsm_reader.specs.Opening.{opened_of};
 ghost use Rattle.lsm_region.specs.Code.{shape_of_picture};
-ghost use Rattle.lsm_words.specs.Answers.{padded, open_words, color_words, name_words, channel_words, picture_words};
+ghost use Rattle.lsm_words.specs.Answers.{padded, open_words, color_words, channel_words, picture_words};
 
-use crate::description::{DESCRIPTION_WORDS, description_words};
+use crate::description::{DESCRIPTION_WORDS, description_words, optional_words};
 use lsm_channel_colors::ChannelMeta;
 use lsm_format::error::Refusal;
 use lsm_reader::open::Opened;
@@ -57,16 +57,6 @@ fn color_words(color: Option<[u8; 3]>) -> [usize; 4]
     }
 }
 
-#[tactic(auto, unfolding(crate::specs::Answers::name_words))]
-fn name_words(name: Option<usize>) -> [usize; 2]
-    ensures { result ≡ name_words name }
-{
-    match name {
-        None => [0, 0],
-        Some(len) => [1, len],
-    }
-}
-
 #[tactic(auto, unfolding(crate::specs::Answers::color_words, crate::specs::Answers::name_words))]
 pub fn channel_words(a: Result<ChannelMeta, Refusal>) -> [usize; CHANNEL_WORDS]
     ensures { result ≡ channel_words (answer_by meta_of a) }
@@ -74,7 +64,7 @@ pub fn channel_words(a: Result<ChannelMeta, Refusal>) -> [usize; CHANNEL_WORDS]
     match a {
         Ok(m) => {
             let [stated, red, green, blue] = color_words(m.color);
-            let [named, len] = name_words(m.name);
+            let [named, len] = optional_words(m.name);
             [0, stated, red, green, blue, named, len, 0]
         }
         Err(r) => refusal_words(r),

@@ -2,6 +2,7 @@
 ghost use Rattle.std.specs.Prelude.{◌≡◌};
 ghost use Rattle.lsm_format.specs.Code.{order_of, kind_of, answer_of, answer_by};
 ghost use Rattle.lsm_description.specs.Code.{description_of};
+ghost use Rattle.lsm_words.specs.Answers.{name_words};
 ghost use Rattle.lsm_words.specs.Description.{block_words, description_words};
 ghost use Rattle.lsm_words.specs.Description.{order_by, kind_by, block_by, described_by};
 
@@ -14,13 +15,15 @@ use lsm_positions::LsmLayout;
 // How many words a description has. A word more stands at the end.
 pub const DESCRIPTION_WORDS: usize = 18;
 
-#[tactic(auto, unfolding(crate::specs::Description::block_words))]
-fn block_words(block: Option<usize>) -> [usize; 2]
-    ensures { result ≡ block_words block }
+// Whether there is a number, and the number: a channel block's place, or a name's length.
+#[tactic(auto, unfolding(crate::specs::Description::block_words, crate::specs::Answers::name_words))]
+pub(crate) fn optional_words(n: Option<usize>) -> [usize; 2]
+    ensures block { result ≡ block_words n }
+    ensures name { result ≡ name_words n }
 {
-    match block {
+    match n {
         None => [0, 0],
-        Some(place) => [1, place],
+        Some(n) => [1, n],
     }
 }
 
@@ -29,7 +32,7 @@ pub fn description_words(d: Description) -> [usize; DESCRIPTION_WORDS]
     ensures { result ≡ description_words (description_of d) }
 {
     let [sized, x, y, step, z] = size_words(d.calibration);
-    let [there, place] = block_words(d.channel_colors_offset);
+    let [there, place] = optional_words(d.channel_colors_offset);
     [
         d.endian as usize,
         d.dtype as usize,

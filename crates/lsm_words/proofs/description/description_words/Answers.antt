@@ -6,4 +6,4 @@ use Rattle.lsm_words.proofs.Descriptions.{description_is}
 use Rattle.lsm_words.proofs.description.description_words.Goals as goal
 
 pub returns : goal.returns
-returns c = description_is (description_of c.args.d) (search rules) (search rules) c.size_words.ensures c.block_words.ensures
+returns c = description_is (description_of c.args.d) (search rules) (search rules) c.size_words.ensures c.optional_words.ensures.block
