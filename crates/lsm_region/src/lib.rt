@@ -54,7 +54,8 @@ fn deliver(
     Ok(picture)
 }
 
-// A whole picture. Its samples are written to `out`, little-endian, row by row.
+// A whole picture. Its samples are written to `out`, little-endian, row by row. File, description and table may come from different places, so
+// each is an argument of its own.
 pub fn plane(
     buf: &[u8],
     d: Description,

@@ -89,7 +89,8 @@ impl Asked<'_> {
         self.whole_channels(page, start, row)
     }
 
-    // Whether every page's strips hold whole rows. The first that doesn't ends the search.
+    // Whether every page's strips hold whole rows. The first that doesn't ends the search. That a row has a byte is looked at here, and asked for
+    // below: a `NonZeroUsize` would be taken apart at each use, and what it is a product of would stand beside it all the same.
     #[tactic(auto, using(crate::proofs::Judging::whole_wide, crate::proofs::Judging::whole_empty))]
     pub(crate) fn whole_rows(self) -> bool
         ensures { result ≡ whole_rows (description_of self.entry.d) self.entry.table.now }

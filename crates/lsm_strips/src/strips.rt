@@ -6,7 +6,8 @@ ghost use Rattle.lsm_strips.specs.Strips.{all_lie, turn_in, whole_in};
 use lsm_format::checked::checked_add;
 use lsm_format::error::Refusal;
 
-// Whether a strip lies in a file of `len` bytes. One whose end overflows doesn't.
+// Whether a strip lies in a file of `len` bytes. One whose end overflows doesn't. The same sum as of a rectangle's side, but the rule of rectangles
+// names the overflow, and this one the end alone.
 #[tactic(auto, unfolding(lsm_format::specs::Words::word))]
 fn lies_within(offset: usize, count: usize, len: usize) -> bool
     ensures { result ≡ leb (offset + count) len }
