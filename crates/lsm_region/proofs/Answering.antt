@@ -1,10 +1,9 @@
 -- Laws of what is given: what makes a rectangle ready to be copied, and what is left in the sample buffer. Assumes nothing.
 use Prim.Native.Nat.{ℕ, ◌+◌, ◌-◌, ◌*◌, ◌/◌, ◌^◌, ◌<◌, ◌≤◌}
-use native.Mathlib.Nat.{add-mul, zero-mul, mul-zero, lt_of_not-le, mul_comm, mul-le-mul, mul-le-mul_right, le-mul_of_pos_right, add-sub_cancel_left, min-eq_left}
+use native.Mathlib.Nat.{add-mul, zero-mul, mul-zero, lt_of_not-le, mul_comm, mul-le-mul, mul-le-mul_right, min-eq_left}
 use native.Mathlib.Omega.{arith}
 use Rattle.std.proofs.Math.Nat.{mul-div_cancel}
 use mathlib.Core.Path.{◌≡◌, refl, sym, ap, subst, ◌∙◌}
-use mathlib.Core.Logic.{inl, inr}
 use mathlib.Core.Bool.{true}
 use mathlib.Core.List.{List, [], ◌∷◌, ◌++◌, reverse}
 use lib.ListN.{length, get_or, drop}
@@ -12,7 +11,7 @@ use Rattle.lsm_format.specs.Answer.{Result, accepted, refused, bind, too_short}
 use Rattle.lsm_format.specs.Numbers.{Order, little, big}
 use Rattle.lsm_format.specs.Open.{Description}
 use Rattle.lsm_format.specs.Rectangle.{Rect, Coordinate, is_empty}
-use Rattle.lsm_format.specs.Sizes.{Kind, u8, u16, i16, f32, sample_size, picture_bytes}
+use Rattle.lsm_format.specs.Sizes.{sample_size, picture_bytes}
 use Rattle.lsm_format.specs.Picture.{Strips, Samples, stored, inside, span, bytes, picture, each_sample, to_little, window, channel_picture, samples_in, row_bytes, into, whole_picture, plane_from, plane, no_strips, region_from, region}
 use Rattle.lsm_format.proofs.Lent.{lend_room, lend_short, filled_room, filled_short}
 use Rattle.lsm_format.proofs.Picture.{held, span_cong, bytes_cong, picture_length_lem, window_rows, window_cong, window_each, plane_accepted, coordinate_channel, rectangle_within, channel_room}
@@ -31,47 +30,27 @@ no_bytes (b ∷ l) e = absurd (omega arith)
 
 -- ---- copying
 
--- a rectangle that has samples
-pub record Wide (d : Description) (r : Rect) : Type 0 where
-  pub row : row_bytes d < 2 ^ 64
-  pub start : r.x * sample_size d.kind + r.w * sample_size d.kind ≤ row_bytes d
-  pub columns : 0 < r.w
-  pub part : 0 < r.w * sample_size d.kind
-  pub high : 0 < r.h
-  pub samples : r.h * r.w < 2 ^ 64
-
 positive : (a b : ℕ) → 0 < a * b → (0 < a) × (0 < b)
 positive a b h = (pos_left a b h, pos_left b a (rw (mul_comm b a) h))
   where
     pos_left : (a b : ℕ) → 0 < a * b → 0 < a
     pos_left a b h = lt_of_not-le (λ l. (let z : a ≡ 0 = omega arith in let e : a * b ≡ 0 = ap (λ (k : ℕ). k * b) z ∙ zero-mul b in omega arith))
 
-pub wide : {d : Description} {t : List ℕ} {len : ℕ} {s : Strips} {r : Rect} → Ready d t len s r → 0 < picture_bytes r.w r.h d.kind → Wide d r
-wide {d} {t} {len} {s} {r} y h =
+-- the rows of a rectangle that has samples
+abbrev pub part_of : Description → Rect → Rows
+part_of d r = record { row = row_bytes d; y = r.y; h = r.h; start = r.x * sample_size d.kind; part = r.w * sample_size d.kind }
+
+pub ready_rows : {d : Description} {t : List ℕ} {len : ℕ} {s : Strips} {r : Rect} → Ready d t len s r → 0 < picture_bytes r.w r.h d.kind
+    → RowsIn len (strips_at t s.first s.count) (part_of d r)
+ready_rows {d} {t} {len} {s} {r} y h =
     let b : ℕ = sample_size d.kind in
     let p = positive (r.w * r.h) b h in
     let q = positive r.w r.h p.0 in
     let part : 1 * 1 ≤ r.w * b = mul-le-mul q.0 p.1 in
     record {
-      row = y.line q.0 q.1;
-      start = rw (← add-mul) (mul-le-mul_right b y.across);
-      columns = q.0;
-      part = omega arith;
-      high = q.1;
-      samples = omega (arith, le-mul_of_pos_right (r.w * r.h) p.1, y.size, mul_comm r.h r.w);
-    }
-
--- the rows of a rectangle
-abbrev pub part_of : Description → Rect → Rows
-part_of d r = record { row = row_bytes d; y = r.y; h = r.h; start = r.x * sample_size d.kind; part = r.w * sample_size d.kind }
-
-pub ready_rows : {d : Description} {t : List ℕ} {len : ℕ} {s : Strips} {r : Rect} → Ready d t len s r → Wide d r
-    → RowsIn len (strips_at t s.first s.count) (part_of d r)
-ready_rows {d} {t} {len} {s} {r} y w =
-    record {
-      some = w.part;
-      across = w.start;
-      held = rw (total_at, ← add-mul) (y.held w.columns w.high);
+      some = omega arith;
+      across = rw (← add-mul) (mul-le-mul_right b y.across);
+      held = rw (total_at, ← add-mul) (y.held q.0 q.1);
       within = rw inside_at y.within;
     }
 

@@ -2,24 +2,21 @@
 use Prim.Native.Nat.{ℕ, suc, ◌+◌, ◌-◌, ◌*◌, ◌<◌, ◌≤◌}
 use native.Mathlib.Nat.{add-zero, zero-add, add_assoc, add-mul, suc-mul, one-mul, mul-le-mul_right, add-sub_cancel_left}
 use native.Mathlib.Omega.{arith}
-use mathlib.Core.Path.{◌≡◌, refl, sym, ap, ◌∙◌}
+use mathlib.Core.Path.{◌≡◌, sym, ap, ◌∙◌}
 use mathlib.Core.Bool.{true}
-use mathlib.Core.List.{List, [], ◌∷◌}
+use mathlib.Core.List.{List, []}
 use borrow.Rule.Slice.PartMut.{put_mid}
 use borrow.Author.Tests.{lt-ltb, leb-true}
 use lib.ListN.{length, get_or, take, drop}
 use lib.Seq.{take_all}
-use Rattle.std.specs.Prelude.{Option, None, Some}
-use Rattle.std.specs.Option.{MatchOption, IsSome}
 use Rattle.std.proofs.lemmas.List.{at_drop_more}
+use Rattle.std.proofs.lemmas.Slice.{take-put_mid}
 use Rattle.lsm_format.specs.Picture.{span, bytes}
 use Rattle.lsm_format.proofs.Accepting.{both_hold}
 use Rattle.lsm_format.proofs.Picture.{held, span_cong, bytes_add, bytes_moved, bytes_length, bytes_run, tile}
-use Rattle.lsm_strips.specs.Strips.{offset_in, count_in, total_in, place_in, all_lie, Stands, Reaches}
-use Rattle.lsm_strips.proofs.Walking.{stands_next, stands_end}
+use Rattle.lsm_strips.specs.Strips.{offset_in, count_in, total_in, place_in, all_lie, Stands}
 use Rattle.lsm_region.specs.declared.copier.Rows.{Rows}
-use Rattle.lsm_region.specs.Rows.{stored_in, rows_of, RowsIn}
-use Rattle.lsm_region.proofs.Filling.{take_put_add, part_step}
+use Rattle.lsm_region.specs.Rows.{stored_in, RowsIn}
 
 -- ---- a run of bytes
 
@@ -49,7 +46,7 @@ pub run_step : {all : List (List ℕ)} (f : List ℕ) (ss : List (List ℕ)) (i 
 run_step {all} f ss i d m k a out ys st h within fits room copied so_far =
     let r : bytes (stored_in f all) (k + a) m ≡ ys = run_here f ss i d m st h within fits ∙ sym (rw add-sub_cancel_left at copied) in
     let z : length ys ≡ m = ap length (sym r) ∙ bytes_length _ (k + a) m in
-    rw (take_put_add a m out ys, so_far, bytes_add, r)
+    rw (take-put_mid a (a + m - a) out ys (a + m) (omega arith) (omega arith), so_far, bytes_add, r)
 
 pub run_done : (g : ℕ → ℕ) (k : ℕ) (out : List ℕ) (a n : ℕ) → length out ≤ a → a ≤ n → length out ≡ n → take a out ≡ bytes g k a → out ≡ bytes g k n
 run_done g k out a n u l e so_far =
@@ -57,10 +54,6 @@ run_done g k out a n u l e so_far =
     sym (take_all a out u) ∙ so_far ∙ ap (bytes g k) q
 
 -- ---- where the walk stands
-
-pub found : {X : Type 0} (Q : X → Type 0) (o : Option X) (n k : ℕ) → MatchOption o (n ≤ k) Q → k < n → IsSome o
-found Q (Some x) n k q h = refl
-found Q None n k q h = absurd (omega arith)
 
 pub stands_then : {a b c : List (List ℕ)} {k d e : ℕ} → Stands a k b d → Stands b d c e → Stands a k c e
 stands_then s r = record {

@@ -4,18 +4,15 @@ use native.Mathlib.Nat.{suc-mul, mul-le-mul_right, add-sub_cancel_left, zero-add
 use native.Mathlib.Numerals.{add-one}
 use native.Mathlib.Omega.{arith}
 use mathlib.Core.Path.{◌≡◌, refl, sym, ap, ◌∙◌}
-use mathlib.Core.List.{List, [], ◌∷◌, ◌++◌, append_assoc, reverse}
+use mathlib.Core.List.{List, [], ◌∷◌, reverse}
 use borrow.Rule.Slice.PartMut.{put_mid, drop_put}
-use lib.ListN.{length, set, get_or, take, drop, length-drop, length-append, length-reverse}
-use lib.Seq.{take_all, take_at, length-take-le, drop-drop}
+use Rattle.std.proofs.lemmas.Slice.{take-put_mid}
+use lib.ListN.{length, take, drop, length-drop, length-reverse}
+use lib.Seq.{take_all, length-take-le, drop-drop}
 use Rattle.lsm_format.specs.Picture.{span, bytes}
 use Rattle.lsm_format.proofs.Picture.{held, span_snoc, bytes_length, bytes_run}
 
 -- ---- a part from a on took m bytes
-
-pub take_put_add : (a m : ℕ) (xs ys : List ℕ) → a + m ≤ length xs → length ys ≡ m → take (a + m) (put_mid a (a + m - a) xs ys) ≡ take a xs ++ ys
-take_put_add a m xs ys h e =
-    rw (← append_assoc) (take_at (take a xs ++ ys) _ (a + m) (rw (length-append, length-take-le a xs (omega arith), e)))
 
 pub part_length : (a m : ℕ) (out : List ℕ) → a + m ≤ length out → length (take (a + m - a) (drop a out)) ≡ m
 part_length a m out h = rw add-sub_cancel_left (length-take-le m (drop a out) (rw length-drop (omega arith)))
@@ -29,7 +26,7 @@ pub part_step : (g : ℕ → List ℕ) (y i part : ℕ) (out ys : List ℕ) → 
     → take ((i + 1) * part) (put_mid (i * part) (i * part + part - i * part) out ys) ≡ span y (i + 1) g
 part_step g y i part out ys fits l e so_far =
     let q : (i + 1) * part ≡ i * part + part = rw (add-one, suc-mul) in
-    rw (q, take_put_add (i * part) part out ys, so_far, e) (sym (span_snoc y i g))
+    rw (q, take-put_mid (i * part) (i * part + part - i * part) out ys (i * part + part) (omega arith) (omega arith), so_far, e) (sym (span_snoc y i g))
 
 pub parts_done : (g : ℕ → List ℕ) (y i h part : ℕ) (out : List ℕ) → i ≤ h → h ≤ i → length out ≡ h * part → take (i * part) out ≡ span y i g
     → out ≡ span y h g

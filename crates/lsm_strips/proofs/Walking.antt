@@ -2,13 +2,13 @@
 use Prim.Native.Nat.{ℕ, ◌+◌, ◌-◌, ◌*◌, ◌/◌, ◌%◌, ◌<◌, ◌≤◌}
 use native.Mathlib.Nat.{add_assoc, add-mul, one-mul, le-div_iff_mul-le, div-add-mod', mod-lt, add-sub_cancel_left}
 use native.Mathlib.Omega.{arith}
-use mathlib.Core.Path.{◌≡◌, refl, sym, ap, subst, ◌∙◌}
+use mathlib.Core.Path.{◌≡◌, refl, ap, subst, ◌∙◌}
 use mathlib.Core.Bool.{true}
 use mathlib.Core.List.{List, [], ◌∷◌}
 use lib.ListN.{length, get_or, take, drop, length-drop}
 use lib.Seq.{take_all}
 use borrow.Author.Tests.{le-ltb}
-use Rattle.std.proofs.lemmas.List.{at_drop_more, at_drop_all}
+use Rattle.std.proofs.lemmas.List.{at_drop_more}
 use Rattle.std.specs.Prelude.{Option, None, Some}
 use Rattle.std.specs.Option.{MatchOption, is_some}
 use Rattle.lsm_format.proofs.Accepting.{both_hold}
@@ -19,9 +19,6 @@ use Rattle.lsm_strips.specs.Strips.{count_in, total_in, place_in, Stands, Reache
 
 pub stands_start : (all : List (List ℕ)) (k : ℕ) → Stands all k all k
 stands_start all k = record { moved = λ m. refl; whole = refl; within = λ len h. h }
-
-pub stands_as : {all left left' : List (List ℕ)} {k d d' : ℕ} → left ≡ left' → d ≡ d' → Stands all k left d → Stands all k left' d'
-stands_as e h s = rw (sym e, sym h) s
 
 past_strip : (s : List ℕ) (rest : List (List ℕ)) (k : ℕ) → place_in (s ∷ rest) (count_in s + k) ≡ place_in rest k
 past_strip s rest k = rw (le-ltb (count_in s + k) (count_in s) (omega arith), place_in, add-sub_cancel_left)
@@ -38,10 +35,6 @@ module _ {all : List (List ℕ)} {k d : ℕ} (ss : List (List ℕ)) (i : ℕ) wh
   pub stands_next : (b : ℕ) → Stands all k (drop i ss) d → i < length ss → d ≡ count_in (get_or ss i []) + b → Stands all k (drop (i + 1) ss) b
   stands_next b st h q =
       stands_past (get_or ss i []) b (subst (λ (l : List (List ℕ)). Stands all k l d) (at_drop_more (λ (l : List (List ℕ)). l) ss i [] h) st) q
-
-  -- no strip is left
-  pub stands_end : Stands all k (drop i ss) d → length ss ≤ i → total_in all ≤ k
-  stands_end st h = omega (arith, st.whole, at_drop_all total_in ss i h)
 
 -- the strips from strip i on
 pub tail_is : (ss : List (List ℕ)) (i : ℕ) → take (length ss - i) (drop i ss) ≡ drop i ss

@@ -2,11 +2,10 @@
 use native.Mathlib.Omega.{arith}
 use Prim.Native.Nat.{◌+◌, ◌*◌, ◌≤◌}
 use native.Mathlib.Nat.{zero-mul}
-use mathlib.Core.Path.{◌≡◌, refl, ap, ◌∙◌}
+use mathlib.Core.Path.{refl, ap, ◌∙◌}
 use lib.ListN.{length}
 use Rattle.lsm_format.specs.Picture.{span, bytes}
 use Rattle.lsm_format.proofs.Picture.{bytes_length}
-use Rattle.lsm_strips.specs.Strips.{Stands}
 use Rattle.lsm_strips.proofs.Walking.{stands_start}
 use Rattle.lsm_region.specs.Rows.{stored_in}
 use Rattle.lsm_region.proofs.Filling.{part_in, part_length, part_step}

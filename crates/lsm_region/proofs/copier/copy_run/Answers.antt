@@ -2,9 +2,8 @@
 use native.Mathlib.Omega.{arith}
 use Prim.Native.Nat.{◌+◌, ◌≤◌}
 use native.Mathlib.Nat.{add_assoc, add-zero}
-use mathlib.Core.Path.{refl, sym, ◌∙◌}
-use lib.ListN.{length, get_or}
-use Rattle.lsm_strips.specs.Strips.{offset_in, count_in}
+use mathlib.Core.Path.{refl, sym}
+use lib.ListN.{length}
 use Rattle.lsm_strips.proofs.Walking.{stands_start, stands_next}
 use Rattle.lsm_format.specs.Picture.{bytes, span}
 use Rattle.lsm_region.proofs.Copying.{lies_here, run_step, run_done, stands_on, stands_as}

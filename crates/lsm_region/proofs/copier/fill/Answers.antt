@@ -1,21 +1,16 @@
--- `lsm_region::copier::fill` meets its contract. It needs that the rectangle has samples (`samples`): then its row fits 64 bits, and so does
--- all that is reckoned from it. The weight lies in Answering: gathered rows are the window of the stored picture, as it is for one byte and for
--- little-endian samples, and turned around for big-endian ones. Assumes nothing.
+-- `lsm_region::copier::fill` meets its contract. The weight lies in Answering: gathered rows are the window of the stored picture, as it is for
+-- one byte and for little-endian samples, and turned around for big-endian ones. Assumes nothing.
 use native.Mathlib.Omega.{arith}
-use Prim.Native.Nat.{ℕ, ◌*◌}
 use mathlib.Core.Path.{◌≡◌, ap}
 use mathlib.Core.Logic.{⊎_elim}
-use Rattle.lsm_format.specs.Code.{kind_of, order_of, rect_of}
+use Rattle.lsm_format.specs.Code.{kind_of, order_of}
 use Rattle.lsm_format.specs.Sizes.{sample_size}
-use Rattle.lsm_description.specs.Code.{description_of}
-use Rattle.lsm_format.proofs.Region.{size_rows, size_samples}
-use Rattle.lsm_region.proofs.Answering.{Wide, wide, ready_rows, from_one, from_little, from_big}
+use Rattle.lsm_region.proofs.Answering.{ready_rows, from_one, from_little, from_big}
 use Rattle.lsm_region.proofs.copier.fill.Goals as goal
 
 pub gather-requires-clause-rows_in : goal.gather-requires-clause-rows_in
 gather-requires-clause-rows_in c =
-    let samples : Wide (description_of c.args.d) (rect_of c.args.rect) = wide c.requires.ready (rw c.requires.out_len at c.requires.some) in
-    rw (c.size_bytes-size.ensures, c.of.ensures.there c.requires.ready.words) (ready_rows c.requires.ready samples)
+    rw (c.size_bytes-size.ensures, c.of.ensures.there c.requires.ready.words) (ready_rows c.requires.ready (rw c.requires.out_len at c.requires.some))
 
 pub returns-in-U8 : goal.returns-in-U8
 returns-in-U8 c =

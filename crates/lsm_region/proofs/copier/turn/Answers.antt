@@ -1,5 +1,4 @@
 -- `lsm_region::copier::turn` meets its contract: the samples before q are turned, and those from q on are as they were. Assumes nothing.
-use native.Mathlib.Omega.{arith}
 use native.Mathlib.Nat.{zero-mul}
 use mathlib.Core.Path.{refl, sym, ap, ◌∙◌}
 use mathlib.Core.List.{reverse}
