@@ -44,7 +44,7 @@ pub struct Entry {
     pub off: usize,
 }
 
-// The bytes of a TIFF type; 0 for a code that is none.
+// The bytes of a TIFF type; 0 for a code that is none, which is the form that the project asks for.
 #[tactic(auto, unfolding(lsm_format::specs::Directory::type_size))]
 pub fn tiff_type_size(ty: u16) -> usize
     ensures { result ≡ type_size ty }
