@@ -1,5 +1,5 @@
 // The byte readers, sizes, rectangles and scenes. A line has the numbers that say what is asked, and then the answer.
-ghost use Rattle.std.specs.Prelude.{◌≡◌, true, ◌-◌, ◌≤◌, ◌<◌, length, pos, negsuc};
+ghost use Rattle.std.specs.Prelude.{◌≡◌, true, ◌+◌, ◌-◌, ◌≤◌, ◌<◌, length, pos, negsuc, IfSome};
 
 use crate::answer::{refused, told};
 use lsm_bytes::{read_f64_bits, read_i32, read_u8, read_u16, read_u32};
@@ -83,35 +83,32 @@ pub fn size(numbers: &[usize]) -> bool
     told(said, bytes)
 }
 
+// The dimensions that numbers begin with, and the numbers behind them.
+fn dims(numbers: &[usize]) -> Option<(Dims5, &[usize])>
+    ensures { IfSome result (λ r. length numbers.now ≡ 5 + length r.1.now) }
+{
+    let [t, c, z, y, x, rest @ ..] = numbers else {
+        return None;
+    };
+    let dims = Dims5 {
+        t: *t,
+        c: *c,
+        z: *z,
+        y: *y,
+        x: *x,
+    };
+    Some((dims, rest))
+}
+
 // A coordinate and a rectangle of a picture.
 pub fn region(numbers: &[usize]) -> bool
     ensures { result ≡ true → 13 ≤ length numbers.now }
 {
-    let [
-        t_size,
-        c_size,
-        z_size,
-        y_size,
-        x_size,
-        scene,
-        t,
-        c,
-        z,
-        x,
-        y,
-        w,
-        h,
-        said @ ..,
-    ] = numbers
-    else {
+    let Some((dims, rest)) = dims(numbers) else {
         return false;
     };
-    let dims = Dims5 {
-        t: *t_size,
-        c: *c_size,
-        z: *z_size,
-        y: *y_size,
-        x: *x_size,
+    let [scene, t, c, z, x, y, w, h, said @ ..] = rest else {
+        return false;
     };
     let co = Coordinate {
         scene: *scene,
