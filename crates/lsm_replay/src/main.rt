@@ -24,7 +24,8 @@ struct Tallies {
 
 // What a line asks for goes by its letter. A letter that stands for nothing differs.
 fn compare(text: &[u8]) -> Tallies
-    ensures { result.plain.cases + result.voxels.cases + result.blocks.cases ≤ length text.now }
+    ensures lines { result.plain.cases + result.voxels.cases + result.blocks.cases ≤ length text.now }
+    ensures differ { (result.plain.differ ≤ result.plain.cases) × (result.voxels.differ ≤ result.voxels.cases) × (result.blocks.differ ≤ result.blocks.cases) }
 {
     let mut plain = Tally::default();
     let mut voxels = Tally::default();
@@ -55,7 +56,7 @@ fn main(rt: HostRuntime) -> io::Result<()> {
     let n = read_full(&mut rt.stdin(), &mut text)?;
     let t = compare(&text[..n]);
     let mut out = rt.stdout();
-    report(&mut out, "ground ", t.plain)?;
-    report(&mut out, "calibration ", t.voxels)?;
-    report(&mut out, "cz ", t.blocks)
+    report(&mut out, b"ground ", t.plain)?;
+    report(&mut out, b"calibration ", t.voxels)?;
+    report(&mut out, b"cz ", t.blocks)
 }

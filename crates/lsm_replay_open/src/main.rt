@@ -43,6 +43,8 @@ fn compare(text: &[u8]) -> Tallies
     ensures lines { result.openings.cases + result.lookups.cases + result.described.cases ≤ length text.now }
     ensures opened { result.opened.cases ≡ result.openings.cases }
     ensures found { result.found.cases ≡ result.lookups.cases }
+    ensures differ { (result.openings.differ ≤ result.openings.cases) × (result.lookups.differ ≤ result.lookups.cases) × (result.opened.differ ≤ result.opened.cases) }
+    ensures differ_2 { (result.found.differ ≤ result.found.cases) × (result.described.differ ≤ result.described.cases) }
 {
     let mut openings = Tally::default();
     let mut lookups = Tally::default();
@@ -80,9 +82,9 @@ fn main(rt: HostRuntime) -> io::Result<()> {
     let n = read_full(&mut rt.stdin(), &mut text)?;
     let t = compare(&text[..n]);
     let mut out = rt.stdout();
-    report(&mut out, "openings ", t.openings)?;
-    report(&mut out, "channels ", t.lookups)?;
-    report(&mut out, "openings in C ", t.opened)?;
-    report(&mut out, "channels in C ", t.found)?;
-    report(&mut out, "descriptions in C ", t.described)
+    report(&mut out, b"openings ", t.openings)?;
+    report(&mut out, b"channels ", t.lookups)?;
+    report(&mut out, b"openings in C ", t.opened)?;
+    report(&mut out, b"channels in C ", t.found)?;
+    report(&mut out, b"descriptions in C ", t.described)
 }

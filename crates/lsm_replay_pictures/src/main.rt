@@ -29,6 +29,8 @@ fn compare(text: &[u8]) -> Tallies
     ensures lines { result.planes.cases + result.rectangles.cases + result.handed.cases ≤ length text.now }
     ensures pictured { result.pictured.cases ≡ result.planes.cases }
     ensures windowed { result.windowed.cases ≡ result.rectangles.cases }
+    ensures differ { (result.planes.differ ≤ result.planes.cases) × (result.rectangles.differ ≤ result.rectangles.cases) × (result.pictured.differ ≤ result.pictured.cases) }
+    ensures differ_2 { (result.windowed.differ ≤ result.windowed.cases) × (result.handed.differ ≤ result.handed.cases) }
 {
     let mut planes = Tally::default();
     let mut rectangles = Tally::default();
@@ -64,9 +66,9 @@ fn main(rt: HostRuntime) -> io::Result<()> {
     let n = read_full(&mut rt.stdin(), &mut text)?;
     let t = compare(&text[..n]);
     let mut out = rt.stdout();
-    report(&mut out, "planes ", t.planes)?;
-    report(&mut out, "rectangles ", t.rectangles)?;
-    report(&mut out, "planes in C ", t.pictured)?;
-    report(&mut out, "rectangles in C ", t.windowed)?;
-    report(&mut out, "handed in, in C ", t.handed)
+    report(&mut out, b"planes ", t.planes)?;
+    report(&mut out, b"rectangles ", t.rectangles)?;
+    report(&mut out, b"planes in C ", t.pictured)?;
+    report(&mut out, b"rectangles in C ", t.windowed)?;
+    report(&mut out, b"handed in, in C ", t.handed)
 }

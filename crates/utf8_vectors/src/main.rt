@@ -37,7 +37,8 @@ fn line(list: &[u8]) -> Option<(bool, &[u8])>
 
 // A line that hasn't the form counts as one that differs, and ends the list.
 fn compare(list: &[u8]) -> Tally
-    ensures { result.cases ≤ length list.now }
+    ensures lines { result.cases ≤ length list.now }
+    ensures differ { result.differ ≤ result.cases }
 {
     let mut tally = Tally::default();
     let mut rest = list;

@@ -11,7 +11,6 @@ use std::io::Write;
 pub struct Tally {
     pub cases: usize,
     pub differ: usize,
-    ghost few: { differ ≤ cases },
 }
 
 impl Default for Tally {
@@ -30,6 +29,7 @@ impl Tally {
     pub fn count(&mut self, agrees: bool)
         ensures cases { self.new.cases ≡ one_more self.old.cases }
         ensures differ { self.new.differ ≡ cond agrees self.old.differ (one_more self.old.differ) }
+        ensures few { self.old.differ ≤ self.old.cases → self.new.differ ≤ self.new.cases }
     {
         self.cases = self.cases.saturating_add(1);
         if !agrees {
@@ -39,8 +39,9 @@ impl Tally {
 }
 
 // Writes how many lines of a list there are, and how many differ.
-pub fn report<W: Write>(out: &mut W, name: &str, t: Tally) -> io::Result<()>
+pub fn report<W: Write>(out: &mut W, name: &[u8], t: Tally) -> io::Result<()>
     ensures { OnOk result (Appends (W.contents out.old) (W.contents out.new) (report_text name.now t.cases t.differ)) }
 {
-    writeln!(out, "{name}{}, {} differ", t.cases, t.differ)
+    out.write_all(name)?;
+    writeln!(out, "{}, {} differ", t.cases, t.differ)
 }

@@ -1,4 +1,5 @@
--- No more lines were counted than the list gave, and each of a function's is one of the C function's.
+-- No more lines were counted than the list gave, and each of a function's is one of the C function's; and no more
+-- differ than were counted.
 use Rattle.std.proofs.Common.{◌≡◌, ◌+◌, ◌≤◌, length}
 use Rattle.lsm_replay_pictures.proofs.compare.Given as goal
 
@@ -7,4 +8,9 @@ invariant-loop-line l = record {
   lines : l.planes.cases + l.rectangles.cases + l.handed.cases + length l.line-iterator.text.now ≤ length l.text;
   pictured : l.pictured.cases ≡ l.planes.cases;
   windowed : l.windowed.cases ≡ l.rectangles.cases;
+  planes_differ : l.planes.differ ≤ l.planes.cases;
+  rectangles_differ : l.rectangles.differ ≤ l.rectangles.cases;
+  pictured_differ : l.pictured.differ ≤ l.pictured.cases;
+  windowed_differ : l.windowed.differ ≤ l.windowed.cases;
+  handed_differ : l.handed.differ ≤ l.handed.cases;
 }
