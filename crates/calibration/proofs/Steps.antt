@@ -1,16 +1,14 @@
 -- Laws of the tests on a voxel size, of the Z step by its place, and of the whole calibration. Assumes nothing.
 use mathlib.Core.Path.{◌≡◌, refl, sym, ap, subst}
-use Prim.Native.Nat.{ℕ, ◌<◌}
-use mathlib.Core.Bool.{Bool, true, false, not, true≢false, ◌&&◌}
-use mathlib.Core.List.{[]}
-use lib.Dec.{T}
-use lib.Bits.{bit_and}
-use lib.Ieee.{Float, nan, inf, fin, binary32, binary64, of_bits, to_bits, fits, is_nan, lt, le, ne}
+use Prim.Native.Nat.{ℕ}
+use mathlib.Core.Bool.{Bool, true, false, true≢false, ◌&&◌}
+use lib.Ieee.{Float, nan, inf, fin, binary32, binary64, of_bits, to_bits, fits, is_nan, lt, le}
 use lib.Ieee.Bits.{of_bits-to_bits}
+use lib.Dec.{T}
 use Rattle.std.specs.Float.{float_is_finite}
 use Rattle.lsm_format.specs.Calibration.{uncalibrated, sized, calibration, above_nought, nought, micrometres, figure}
 use Rattle.lsm_format.specs.Calibration.{used, absent, placeholder, too_large, z_step, step_by, smallest_step, largest_step}
-use Rattle.narrowing.proofs.Product.{Number, pattern_nan, micrometres_number}
+use Rattle.narrowing.proofs.Product.{Number, micrometres_number}
 
 -- ---- the code's constants, by their patterns
 
@@ -27,10 +25,6 @@ unfolding of_bits
 largest_is = refl
 
 -- ---- X and Y
-
-pub above_nan : (b : ℕ) → 0x7ff0_0000_0000_0000 < bit_and b 0x7fff_ffff_ffff_ffff → false ≡ above_nought b
-unfolding lt
-above_nan b h = rw (pattern_nan b h)
 
 pub above_is : (b : ℕ) → lt (of_bits binary64 0) (of_bits binary64 b) ≡ above_nought b
 above_is b = rw nought_wide
@@ -80,20 +74,7 @@ pub step_nan : absent ≡ z_step nan
 unfolding z_step
 step_nan = refl
 
--- what equals itself is a number
-pub step_number : (z : Float) → ne z z ≡ false → T (not (is_nan z))
-unfolding ne is_nan
-step_number nan h = absurd (true≢false h)
-step_number (inf s) h = tt
-step_number (fin s m e) h = tt
-
 -- ---- the figure of any f32
-
-pub figure_nan : (z : Float) → is_nan z ≡ true → figure z ≡ []
-unfolding figure is_nan
-figure_nan nan h = refl
-figure_nan (inf s) h = absurd (true≢false (sym h))
-figure_nan (fin s m e) h = absurd (true≢false (sym h))
 
 pub figure_bits : (z : Float) → fits binary32 z ≡ true → figure (of_bits binary32 (to_bits binary32 z)) ≡ figure z
 figure_bits z h = ap figure (of_bits-to_bits binary32 z (subst T (sym h) tt))

@@ -1,14 +1,17 @@
 // Voxel sizes, the Z step and the figure of its note.
 #![tactic(auto)]
 
-ghost use Rattle.std.specs.Prelude.{◌≡◌};
-ghost use Rattle.lsm_format.specs.Calibration.{calibration, above_nought, z_step, figure};
+ghost use Rattle.std.specs.Prelude.{◌≡◌, ◌<◌, IfSome};
+ghost use Rattle.arrayvec.specs.ArrayVec.{array_vec_len};
+ghost use Rattle.lsm_format.specs.Calibration.{calibration, above_nought, z_step};
 ghost use Rattle.narrowing.specs.Code.{float_of};
+ghost use Rattle.figure.specs.Code.{letters_of};
 ghost use Rattle.calibration.specs.Calibrated.{calibration_of, step_of, note_text};
 
 use arrayvec::ArrayVec;
 use figure::short_exponential;
 use narrowing::to_micrometres;
+use std::num::{f32_to_bits_with_nan, f64_from_bits_with_nan};
 
 // The smallest and the largest Z step, in micrometres, that a microscope could have measured.
 const MIN_PLAUSIBLE_Z_STEP_UM: f32 = 1e-6;
@@ -34,15 +37,11 @@ pub struct Calibration {
 }
 
 // Whether the f64 with this pattern is above 0.
-#[tactic(auto, using(narrowing::proofs::Product::taken, crate::proofs::Steps::above_nan, crate::proofs::Steps::above_is))]
+#[tactic(auto, using(crate::proofs::Steps::above_is))]
 fn above_zero(bits: u64) -> bool
     ensures { result ≡ above_nought bits }
 {
-    // a NaN's pattern is looked at first: no float is made of it
-    if 0x7ff0_0000_0000_0000 < (bits & 0x7fff_ffff_ffff_ffff) {
-        return false;
-    }
-    0.0 < f64::from_bits(bits)
+    0.0 < f64_from_bits_with_nan(bits)
 }
 
 // What a step in micrometres becomes; one that is a NaN has no value.
@@ -82,23 +81,14 @@ pub fn calibrate(vx: u64, vy: u64, vz: u64) -> Option<Calibration>
     })
 }
 
-// The figure of any f32, a NaN's too: there is none.
-#[tactic(auto, using(crate::proofs::Steps::figure_nan, crate::proofs::Steps::figure_bits))]
-fn step_figure(um: f32) -> ArrayVec<u8, 8>
-    ensures { result.items ≡ figure um }
-{
-    if um.is_nan() {
-        return ArrayVec::new();
-    }
-    short_exponential(um.to_bits())
-}
-
-// The figure of the note on a Z step; empty where there is no note.
-pub fn note_figure(z: ZStep) -> ArrayVec<u8, 8>
-    ensures { result.items ≡ note_text z }
+// The figure of the note on a Z step; None where there is no note, or the step has no figure.
+#[tactic(auto, using(crate::proofs::Steps::figure_bits))]
+pub fn note_figure(z: ZStep) -> Option<ArrayVec<u8, 8>>
+    ensures is { letters_of result ≡ note_text z }
+    ensures given { IfSome result (λ figure. 0 < array_vec_len figure) }
 {
     match z {
-        ZStep::Used(_) | ZStep::Absent => ArrayVec::new(),
-        ZStep::Placeholder(um) | ZStep::TooLarge(um) => step_figure(um),
+        ZStep::Used(_) | ZStep::Absent => None,
+        ZStep::Placeholder(um) | ZStep::TooLarge(um) => short_exponential(f32_to_bits_with_nan(um)),
     }
 }

@@ -1,3 +1,4 @@
 pub mod Limbs
 pub mod Powers
 pub mod Fractions
+pub mod Exponents

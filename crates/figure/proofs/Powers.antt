@@ -2,7 +2,7 @@
 use Prim.Native.Nat.{ℕ, zero, suc, ◌+◌, ◌-◌, ◌*◌, ◌/◌, ◌%◌, ◌^◌, ◌≤◌, ◌<◌, compare, Ordering}
 use mathlib.Core.Path.{◌≡◌, refl, sym, ap, ◌∙◌}
 use mathlib.Core.Bool.{Bool, true, false, true≢false}
-use native.Mathlib.Nat.{add-mul, mul_comm, mul_assoc, mul_left_comm, mul-one, pow-suc, mul-pos, mul-le-mul_right, mul-lt-mul_of_pos_left, lt_of_mul-lt-mul_right, lt_of_lt_of_le, lt_trans, le_trans}
+use native.Mathlib.Nat.{div-eq-sub-div, mod-eq-sub-mod, div-eq_of_lt, mod-eq_of_lt, div-lt_iff_lt-mul, div-add-mod', mod-lt, add-mul, mul_comm, mul_assoc, mul_left_comm, mul-one, pow-suc, mul-pos, mul-le-mul_right, mul-lt-mul_of_pos_left, lt_of_mul-lt-mul_right, lt_of_lt_of_le, lt_trans, le_trans}
 use native.Mathlib.Numerals.{add-one}
 use native.Mathlib.Omega.{arith}
 use lib.Arith.{digits_div, digits_mod}
@@ -12,7 +12,7 @@ use lib.Pow.{shl_lt, pow_mono, pow_pos}
 use borrow.Author.Tests.{le-leb, lt-leb, leb-true, leb-false, eq-eqb, ne_eqb}
 use lib.IntN.{pos, ◌-ℤ◌}
 use Rattle.lsm_format.specs.Calibration.{tens_above, tens_below, hundredfold, figure_text, figure_by}
-use Rattle.figure.specs.Wide.{room, Scaled, Divided, Quotient, Near, figure_of}
+use Rattle.figure.specs.Wide.{room, Scaled, Near, figure_of}
 
 -- ---- a mantissa of 24 bits, doubled
 
@@ -83,13 +83,13 @@ pub above_stop : (num den left next : ℕ) → next ≡ 10 * den → leb next nu
 above_stop num den left next e h = scaled_none _ den left (above_no left num den (rw e at h))
 
 -- num is at least ten times den, and the rest was found from there.
-pub above_go : (num den left next r count : ℕ) → (left ≡ 0 → ⊥) → next ≡ 10 * den → leb next num ≡ true
-    → Scaled (tens_above (left - 1) num next) next (left - 1) r count → Scaled (tens_above left num den) den left r (count + 1)
-above_go num den zero next r count k e h s = absurd (k refl)
-above_go num den (suc n) next r count k e h s =
+pub above_go : (num den left r count : ℕ) → (left ≡ 0 → ⊥) → leb (10 * den) num ≡ true → count ≡ tens_above (left - 1) num (10 * den)
+    → count ≤ left - 1 → r ≡ 10 * den * 10 ^ count → Scaled (tens_above left num den) den left r (count + 1)
+above_go num den zero r count k h e f s = absurd (k refl)
+above_go num den (suc n) r count k h e f s =
     let p : suc n - 1 ≡ n = omega arith in
-    scaled_more _ (tens_above n num next) den next n r count
-    (above_yes n num den (rw e at h) ∙ ap (λ (z : ℕ). suc (tens_above n num z)) (sym e)) e (rw p at s)
+    scaled_more _ (tens_above n num (10 * den)) den (10 * den) n r count (above_yes n num den h) refl
+    (record { right = rw p at e; few = rw p at f; scaled = s })
 
 -- No question is left.
 pub below_zero : (num den left : ℕ) → left ≡ 0 → Scaled (tens_below left num den) num left num 0
@@ -101,40 +101,50 @@ pub below_stop : (num den left : ℕ) → leb den num ≡ true → Scaled (tens_
 below_stop num den left h = scaled_none _ num left (below_yes left num den h)
 
 -- num is below den, and the rest was found from ten times num.
-pub below_go : (num den left next r count : ℕ) → (left ≡ 0 → ⊥) → next ≡ 10 * num → leb den num ≡ false
-    → Scaled (tens_below (left - 1) next den) next (left - 1) r count → Scaled (tens_below left num den) num left r (count + 1)
-below_go num den zero next r count k e h s = absurd (k refl)
-below_go num den (suc n) next r count k e h s =
+pub below_go : (num den left r count : ℕ) → (left ≡ 0 → ⊥) → leb den num ≡ false → count ≡ tens_below (left - 1) (10 * num) den
+    → count ≤ left - 1 → r ≡ 10 * num * 10 ^ count → Scaled (tens_below left num den) num left r (count + 1)
+below_go num den zero r count k h e f s = absurd (k refl)
+below_go num den (suc n) r count k h e f s =
     let p : suc n - 1 ≡ n = omega arith in
-    scaled_more _ (tens_below n next den) num next n r count
-    (below_no n num den h ∙ ap (λ (z : ℕ). suc (tens_below n z den)) (sym e)) e (rw p at s)
+    scaled_more _ (tens_below n (10 * num) den) num (10 * num) n r count (below_no n num den h) refl
+    (record { right = rw p at e; few = rw p at f; scaled = s })
 
 -- ---- a digit by repeated subtraction
 
--- den is taken once more.
-pub divided_on : (num den d rest less : ℕ) → num ≡ d * den + rest → less + den ≡ rest → num ≡ (d + 1) * den + less
-divided_on num den d rest less h e = omega (arith, add-mul d 1 den)
-
 -- Less than ten times den holds it fewer than ten times.
-pub divided_few : (num den d rest : ℕ) → num ≡ d * den + rest → num < 10 * den → d < 10
-divided_few num den d rest h f = lt_of_mul-lt-mul_right den (omega arith)
+pub digit_below : (num den : ℕ) → num < 10 * den → num / den < 10
+digit_below num den h = let p : 0 < den = omega arith in (div-lt_iff_lt-mul p).1 h
+
+-- den goes once more into what holds it, and not at all into what is smaller.
+pub ruleset divided = (div-eq-sub-div, mod-eq-sub-mod, div-eq_of_lt, mod-eq_of_lt, digit_below)
 
 -- ---- three digits, and the rounding of the last
 
+-- A rest is smaller than den, so that ten times it has one digit again.
+pub rest_below : (num den : ℕ) → 0 < den → num % den < den
+rest_below num den p = mod-lt num p
+
 -- Three digits, each of ten times what the one before left.
-pub three : (num den a r b s c t u v : ℕ) → Divided num den a r → u ≡ 10 * r → Divided u den b s → v ≡ 10 * s → Divided v den c t
-    → Quotient num den (100 * a + 10 * b + c) t
-three num den a r b s c t u v x e y f z =
-    let q = 100 * a + 10 * b + c in
-    let h : q * den ≡ 100 * (a * den) + 10 * (b * den) + c * den =
-    add-mul (100 * a + 10 * b) c den
-    ∙ ap (λ (k : ℕ). k + c * den) (add-mul (100 * a) (10 * b) den ∙ ap (λ (k : ℕ). k + 10 * b * den) (mul_assoc 100 a den) ∙ ap (λ (k : ℕ). 100 * (a * den) + k) (mul_assoc 10 b den)) in
-    let p : 100 * num ≡ q * den + t = omega (arith, x.sum, y.sum, z.sum) in
-    record {
-      digits = sym (ap (λ (n : ℕ). n / den) p ∙ digits_div q z.small);
-      left = sym (ap (λ (n : ℕ). n % den) p ∙ digits_mod q z.small);
-      most = omega (arith, x.one, y.one, z.one);
-    }
+three : (num den : ℕ) → 0 < den →
+    100 * num ≡ (100 * (num / den) + 10 * (10 * (num % den) / den) + 10 * (10 * (num % den) % den) / den) * den + 10 * (10 * (num % den) % den) % den
+three num den p =
+    let u = 10 * (num % den) in
+    let v = 10 * (u % den) in
+    let x : num / den * den + num % den ≡ num = div-add-mod' num den in
+    let y : u / den * den + u % den ≡ u = div-add-mod' u den in
+    let z : v / den * den + v % den ≡ v = div-add-mod' v den in
+    let h : (100 * (num / den) + 10 * (u / den) + v / den) * den ≡ 100 * (num / den * den) + 10 * (u / den * den) + v / den * den =
+    add-mul (100 * (num / den) + 10 * (u / den)) (v / den) den
+    ∙ ap (λ (k : ℕ). k + v / den * den) (add-mul (100 * (num / den)) (10 * (u / den)) den
+    ∙ ap (λ (k : ℕ). k + 10 * (u / den) * den) (mul_assoc 100 (num / den) den)
+    ∙ ap (λ (k : ℕ). 100 * (num / den * den) + k) (mul_assoc 10 (u / den) den)) in
+    omega arith
+
+pub three_digits : (num den : ℕ) → 0 < den → 100 * num / den ≡ 100 * (num / den) + 10 * (10 * (num % den) / den) + 10 * (10 * (num % den) % den) / den
+three_digits num den p = ap (λ (n : ℕ). n / den) (three num den p) ∙ digits_div _ (mod-lt _ p)
+
+pub three_rest : (num den : ℕ) → 0 < den → 100 * num % den ≡ 10 * (10 * (num % den) % den) % den
+three_rest num den p = ap (λ (n : ℕ). n % den) (three num den p) ∙ digits_mod _ (mod-lt _ p)
 
 -- What an order says of `compare`.
 order_lt : (o : Ordering) → is_le o ≡ true → compare_is_eq o ≡ false → o ≡ Ordering.lt
@@ -255,7 +265,7 @@ near_small b v n z f =
     let l : b % 2 ^ 23 < 2 ^ 24 = omega arith in
     rw (mul-one (b % 2 ^ 23)) at (near (b % 2 ^ 23) 0 v p l (lit< tt) f)
 
--- The figure of a fraction from its tens and its three digits.
+-- The figure of a fraction from its tens and its three digits; the check finds it alone.
 pub figure_by_lem : (num den top a bottom b q : ℕ) → Scaled (tens_above 64 num den) den 64 bottom a → Scaled (tens_below 64 num den) num 64 top b → q ≡ hundredfold top bottom
     → figure_text q (pos a -ℤ pos b) ≡ figure_of num den
 figure_by_lem num den top a bottom b q up low e =

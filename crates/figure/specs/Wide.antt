@@ -17,12 +17,6 @@ pub record Scaled (wanted n left r count : ℕ) : Type 0 where
   pub few : count ≤ left
   pub scaled : r ≡ n * 10 ^ count
 
--- num by den: a digit and a rest.
-pub record Divided (num den digit rest : ℕ) : Type 0 where
-  pub sum : num ≡ digit * den + rest
-  pub small : rest < den
-  pub one : digit < 10
-
 -- The hundredfold of num by den: three digits and a rest.
 pub record Quotient (num den q rest : ℕ) : Type 0 where
   pub digits : q ≡ 100 * num / den

@@ -5,13 +5,13 @@
 
 mod wide;
 
-ghost use Rattle.std.specs.Prelude.{◌≡◌, ◌∷◌, ◌++◌, ◌+◌, ◌*◌, ◌^◌, ◌≤◌, ◌<◌, pos, ◌-ℤ◌};
+ghost use Rattle.std.specs.Prelude.{◌≡◌, ◌∷◌, ◌++◌, ◌+◌, ◌*◌, ◌/◌, ◌%◌, ◌^◌, ◌≤◌, ◌<◌, pos, ◌-ℤ◌, IfSome};
 ghost use Rattle.std.specs.Float.{binary32};
 ghost use Rattle.std.specs.Float.Ieee.{of_bits};
 ghost use Rattle.arrayvec.specs.ArrayVec.{array_vec_len};
-ghost use Rattle.lsm_format.specs.Calibration.{figure, tens_above, tens_below, hundredfold, digit, mantissa, two_digits, exponent_text, figure_text};
-ghost use Rattle.figure.specs.Code.{number_of};
-ghost use Rattle.figure.specs.Wide.{room, Scaled, Divided, Quotient, Hundreds, Near, figure_of};
+ghost use Rattle.lsm_format.specs.Calibration.{figure, tens_above, tens_below, hundredfold, digit, mantissa, exponent_text, figure_text};
+ghost use Rattle.figure.specs.Code.{number_of, letters_of};
+ghost use Rattle.figure.specs.Wide.{room, Scaled, Quotient, Hundreds, Near, figure_of};
 
 use crate::wide::Wide;
 use arrayvec::ArrayVec;
@@ -26,7 +26,7 @@ struct Tens {
 // The two functions below stay two: one looks at the number after the ten is multiplied in, the other before it.
 
 // den, with a ten multiplied in while num is at least ten times as large; asked at most `left` times.
-#[tactic(auto, using(crate::proofs::Powers::above_zero, crate::proofs::Powers::above_stop))]
+#[tactic(auto, using(crate::proofs::Powers::above_zero, crate::proofs::Powers::above_stop, crate::proofs::Powers::above_go))]
 fn above(num: Wide, den: Wide, left: u32) -> Tens
     requires { (10 * number_of num < room) × (10 * number_of den < room) }
     ensures { Scaled (tens_above left (number_of num) (number_of den)) (number_of den) left (number_of result.number) result.count }
@@ -42,15 +42,15 @@ fn above(num: Wide, den: Wide, left: u32) -> Tens
     if num.at_least(next) {
         let more = above(num, next, left - 1);
         return Tens {
-            number: more.number,
             count: more.count + 1,
+            ..more
         };
     }
     stop
 }
 
 // num, with a ten multiplied in while it is below den; asked at most `left` times.
-#[tactic(auto, using(crate::proofs::Powers::below_zero, crate::proofs::Powers::below_stop))]
+#[tactic(auto, using(crate::proofs::Powers::below_zero, crate::proofs::Powers::below_stop, crate::proofs::Powers::below_go))]
 fn below(num: Wide, den: Wide, left: u32) -> Tens
     requires { 10 * number_of den < room }
     ensures { Scaled (tens_below left (number_of num) (number_of den)) (number_of num) left (number_of result.number) result.count }
@@ -63,8 +63,8 @@ fn below(num: Wide, den: Wide, left: u32) -> Tens
     }
     let more = below(num.times(10), den, left - 1);
     Tens {
-        number: more.number,
         count: more.count + 1,
+        ..more
     }
 }
 
@@ -76,10 +76,11 @@ struct Digits {
 }
 
 // How often den goes into num, a digit, and what is left.
-#[tactic(auto, using(crate::proofs::Powers::divided_on, crate::proofs::Powers::divided_few))]
+#[tactic(auto, using(crate::proofs::Powers::divided))]
 fn divided(num: Wide, den: Wide) -> Digits
     requires { number_of num < 10 * number_of den }
-    ensures { Divided (number_of num) (number_of den) result.digits (number_of result.rest) }
+    ensures digit { (result.digits ≡ number_of num / number_of den) × (result.digits < 10) }
+    ensures rest { number_of result.rest ≡ number_of num % number_of den }
 {
     let mut rest = num;
     let mut digits = 0;
@@ -91,6 +92,7 @@ fn divided(num: Wide, den: Wide) -> Digits
 }
 
 // Three digits of num / den, the first before the point, and what is left of the hundredfold.
+#[tactic(auto, using(crate::proofs::Powers::rest_below, crate::proofs::Powers::three_digits, crate::proofs::Powers::three_rest))]
 fn three_digits(num: Wide, den: Wide) -> Digits
     requires { (number_of den ≤ number_of num) × (number_of num < 10 * number_of den) × (10 * number_of den < room) }
     ensures { Quotient (number_of num) (number_of den) result.digits (number_of result.rest) }
@@ -150,41 +152,29 @@ fn point_text(q: u32) -> ArrayVec<u8, 8>
     text
 }
 
-// Two digits, or one where the first is zero.
-fn push_count(text: &mut ArrayVec<u8, 8>, n: u32)
-    requires { (array_vec_len text.old ≤ 6) × (n < 100) }
-    ensures { text.new.items ≡ text.old.items ++ two_digits n }
-{
-    if 10 <= n {
-        text.push(letter(n / 10));
-    }
-    text.push(letter(n % 10));
-}
-
 // The power of ten: `above` less `below`.
+#[tactic(auto, using(crate::proofs::Exponents::exponent))]
 fn push_power(text: &mut ArrayVec<u8, 8>, above: u32, below: u32)
     requires { (array_vec_len text.old ≤ 4) × (above < 100) × (below < 100) }
     ensures { text.new.items ≡ text.old.items ++ 101 ∷ exponent_text (pos above -ℤ pos below) }
 {
     text.push(b'e');
-    if below <= above {
-        push_count(text, above - below);
-    } else {
-        text.push(b'-');
-        push_count(text, below - above);
-    }
+    let mut power = itoa::Buffer::new();
+    let power = power.format(above as i32 - below as i32);
+    text.try_extend_from_slice(power.as_bytes()).unwrap();
 }
 
 // Three digits that rounded up to 1000 are 100 of the next power.
 fn text(q: u32, above: u32, below: u32) -> ArrayVec<u8, 8>
     requires { (q ≤ 1000) × (above < 99) × (below < 99) }
-    ensures { result.items ≡ figure_text q (pos above -ℤ pos below) }
+    ensures is { result.items ≡ figure_text q (pos above -ℤ pos below) }
+    ensures given { 0 < array_vec_len result }
 {
-    if q == 1000 {
-        let mut text = point_text(100);
-        push_power(&mut text, above + 1, below);
-        return text;
-    }
+    let (q, above) = if q == 1000 {
+        (100, above + 1)
+    } else {
+        (q, above)
+    };
     let mut text = point_text(q);
     push_power(&mut text, above, below);
     text
@@ -194,27 +184,30 @@ fn text(q: u32, above: u32, below: u32) -> ArrayVec<u8, 8>
 #[tactic(auto, using(crate::proofs::Powers::between))]
 fn fraction_text(num: Wide, den: Wide) -> ArrayVec<u8, 8>
     requires { Near (number_of num) (number_of den) }
-    ensures { result.items ≡ figure_of (number_of num) (number_of den) }
+    ensures is { result.items ≡ figure_of (number_of num) (number_of den) }
+    ensures given { 0 < array_vec_len result }
 {
     let up = above(num, den, 64);
     let down = below(num, den, 64);
     text(hundreds(down.number, up.number), up.count, down.count)
 }
 
-// The figure of the f32 with this pattern, and none where it is not above 0 or not finite.
+// The figure of the f32 with this pattern; None where it is not above 0 or not finite.
 #[tactic(auto, using(crate::proofs::Fractions::figure_zero, crate::proofs::Fractions::figure_none, crate::proofs::Fractions::figure_tiny, crate::proofs::Fractions::figure_normal, crate::proofs::Powers::near, crate::proofs::Powers::near_small))]
-pub fn short_exponential(bits: u32) -> ArrayVec<u8, 8>
-    ensures { result.items ≡ figure (of_bits binary32 bits) }
+pub fn short_exponential(bits: u32) -> Option<ArrayVec<u8, 8>>
+    ensures is { letters_of result ≡ figure (of_bits binary32 bits) }
+    ensures given { IfSome result (λ figure. 0 < array_vec_len figure) }
 {
     if bits == 0 || 0x7f80_0000 <= bits {
-        return ArrayVec::new();
+        return None;
     }
     // The value is the mantissa doubled field - 1 times, over 2 ^ 149: a field of 0 counts as 1 and has no leading bit.
     let field = bits / 0x80_0000;
     let low = bits % 0x80_0000;
     let den = Wide::new(1).doubled(149);
     if field == 0 {
-        return fraction_text(Wide::new(low), den);
+        return Some(fraction_text(Wide::new(low), den));
     }
-    fraction_text(Wide::new(0x80_0000 + low).doubled(field - 1), den)
+    let num = Wide::new(0x80_0000 + low).doubled(field - 1);
+    Some(fraction_text(num, den))
 }

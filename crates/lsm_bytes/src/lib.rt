@@ -4,14 +4,14 @@
 
 ghost use Rattle.std.specs.Prelude.{◌≡◌};
 ghost use Rattle.lsm_format.specs.Code.{order_of, answer_of};
-ghost use Rattle.lsm_format.specs.Numbers.{part_at, u8_at, u16_at, u32_at, i32_at, f64_bits_at};
+ghost use Rattle.lsm_format.specs.Numbers.{part_at, u8_at, u16_at, u32_at, i32_at, positive_of, f64_bits_at};
 
 use lsm_format::error::Refusal;
 use lsm_format::types::Endian;
 
 // The `N` bytes at `off`, or the refusal that says that there are none. The test is by the last place that has so many bytes after it, which
 // is the same all over a file, so that a read costs one comparison: with `get(off..)` it costs two, and opening takes longer.
-#[tactic(auto, using(lsm_format::proofs::Numbers::part_past))]
+#[tactic(auto, using(lsm_format::proofs::Numbers::part_past, lsm_format::proofs::Told::ok_or_given, crate::proofs::Bytes::chunk_part))]
 fn bytes_at<const N: usize>(buf: &[u8], off: usize) -> Result<[u8; N], Refusal>
     ensures { answer_of result ≡ part_at buf.now off N }
 {
@@ -67,6 +67,13 @@ pub fn read_i32(buf: &[u8], off: usize, e: Endian) -> Result<i32, Refusal>
 {
     let n = read_u32(buf, off, e)?;
     Ok(n.cast_signed())
+}
+
+// A signed number as a place or a length: one that is not above 0 states none.
+pub fn positive(n: i32) -> Option<usize>
+    ensures { result ≡ positive_of n }
+{
+    usize::try_from(n).ok().filter(|&size| size > 0)
 }
 
 // Read the bits of an `f64` at `off`. A NaN's pattern is no float here, so the bits are handed on as they are.

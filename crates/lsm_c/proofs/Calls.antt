@@ -3,10 +3,10 @@ use Prim.Native.Nat.{ℕ}
 use mathlib.Core.Path.{◌≡◌, refl, ap, ◌∙◌}
 use mathlib.Core.List.{List, [], ◌∷◌}
 use lib.ListN.{length, get_or}
-use Rattle.lsm_format.specs.Answer.{Result, accepted, refused, bind}
+use Rattle.lsm_format.specs.Answer.{Result, accepted, refused}
 use Rattle.lsm_format.specs.Open as Rule
 use Rattle.lsm_format.specs.Channels.{Channel}
-use Rattle.lsm_channel_colors.specs.Code.{Seen, seen, Looked}
+use Rattle.lsm_channel_colors.specs.Code.{Seen, seen}
 use Rattle.lsm_format.specs.Picture.{Samples, into}
 use Rattle.lsm_region.specs.Code.{shape_of, Pictured}
 use Rattle.lsm_reader.specs.Opening.{told_of, opened_of, OpenedAs}
@@ -14,9 +14,8 @@ use Rattle.lsm_reader.specs.declared.open.Opened.{Opened}
 use Rattle.lsm_format.specs.declared.error.Refusal.{Refusal}
 use Rattle.lsm_format.specs.Code.{answer_by}
 use Rattle.std.specs.Prelude.{Result as Answer}
-use Rattle.lsm_words.specs.Description.{described_by}
 use Rattle.lsm_words.specs.Answers.{open_length, channel_length, picture_length, padded, open_words, channel_words, picture_words}
-use Rattle.lsm_c.specs.Calls.{number_of, OpenedBy, lookup_by, lookup_memory_by, Answered, LookedUp, PicturedBy}
+use Rattle.lsm_c.specs.Calls.{number_of, OpenedBy, lookup_by, Answered, LookedUp, PicturedBy}
 
 -- a refusal's first word is its number
 row_number : (k : ℕ) (row : List ℕ) → get_or (padded k row) 0 0 ≡ get_or row 0 0
@@ -29,11 +28,15 @@ open_number : (x : Result Rule.Opened) → get_or (open_words (told_of x)) 0 0 �
 open_number (accepted o) = refl
 open_number (refused row) = row_number open_length row
 
-pub opened_by : {f lent table w : List ℕ} {a : Answer Opened Refusal} → OpenedAs f lent table a → w ≡ open_words (answer_by opened_of a) →
-    OpenedBy f lent table w (get_or w 0 0)
-opened_by {f} {lent} h e =
+pub opened_by : {f lent table words answer : List ℕ} {a : Answer Opened Refusal} {r : ℕ} → OpenedAs f lent table a → words ≡ open_words (answer_by opened_of a)
+    → answer ≡ words → r ≡ get_or words 0 0 → OpenedBy f lent table answer r
+opened_by {f} {lent} h e same first =
     let is = e ∙ ap open_words h.answered in
-    record { returned = ap (λ (l : List ℕ). get_or l 0 0) is ∙ open_number (Rule.open_file f (length lent)); answered = is; memory = h.memory }
+    record {
+      returned = first ∙ ap (λ (l : List ℕ). get_or l 0 0) is ∙ open_number (Rule.open_file f (length lent));
+      answered = same ∙ is;
+      memory = h.memory;
+    }
 
 -- ---- a channel
 
@@ -42,22 +45,13 @@ channel_number (accepted c) = refl
 channel_number (refused row) = row_number channel_length row
 
 module _ (f w : List ℕ) (channel : ℕ) (lent : List ℕ) where
-  pub no_description : (row : List ℕ) → described_by w ≡ refused row → Answered f w channel lent lent (refused row)
-  unfolding lookup_by lookup_memory_by bind
-  no_description row e = record { answered = rw e; memory = rw (e, lookup_memory_by) }
-
-  pub described : (d : Rule.Description) (name : List ℕ) (a : Result Seen) → described_by w ≡ accepted d →
-      Looked d.order f d.channel_block d.dims.c channel lent name a → Answered f w channel lent name a
-  unfolding lookup_by lookup_memory_by bind
-  described d name a e h = record { answered = rw e h.answered; memory = rw (e, lookup_memory_by) h.memory }
-
-  pub looked_up : {name words : List ℕ} {a : Result Seen} → Answered f w channel lent name a → words ≡ channel_words a →
-      LookedUp f w channel lent name words (get_or words 0 0)
-  looked_up h e =
+  pub looked_up : {name words answer : List ℕ} {a : Result Seen} {r : ℕ} → Answered f w channel lent name a → words ≡ channel_words a
+      → answer ≡ words → r ≡ get_or words 0 0 → LookedUp f w channel lent name answer r
+  looked_up h e same first =
       let is = e ∙ ap channel_words h.answered in
       record {
-        returned = ap (λ (l : List ℕ). get_or l 0 0) is ∙ channel_number (lookup_by w f channel (length lent));
-        answered = is;
+        returned = first ∙ ap (λ (l : List ℕ). get_or l 0 0) is ∙ channel_number (lookup_by w f channel (length lent));
+        answered = same ∙ is;
         memory = h.memory;
       }
 
@@ -67,19 +61,12 @@ picture_number : (x : Result Samples) → get_or (picture_words (shape_of x)) 0 
 picture_number (accepted a) = refl
 picture_number (refused row) = row_number picture_length row
 
-pub pictured_by : {s : Result Samples} {lent out words : List ℕ} {a : Result (ℕ × ℕ × ℕ)} → Pictured s lent out a → words ≡ picture_words a →
-    PicturedBy s lent out words (get_or words 0 0)
-pictured_by {s} {lent} h e =
+pub pictured_by : {s : Result Samples} {lent out words answer : List ℕ} {a : Result (ℕ × ℕ × ℕ)} {r : ℕ} → Pictured s lent out a → words ≡ picture_words a
+    → answer ≡ words → r ≡ get_or words 0 0 → PicturedBy s lent out answer r
+pictured_by {s} {lent} h e same first =
     let is = e ∙ ap picture_words h.answered in
-    record { returned = ap (λ (l : List ℕ). get_or l 0 0) is ∙ picture_number (into s (length lent)); answered = is; memory = h.memory }
-
--- words that are a description, and words that are none
-pub pictured_with : (w : List ℕ) (k : Rule.Description → Result Samples) (d : Rule.Description) {lent out : List ℕ} {a : Result (ℕ × ℕ × ℕ)} →
-    described_by w ≡ accepted d → Pictured (k d) lent out a → Pictured (bind (described_by w) k) lent out a
-unfolding bind
-pictured_with w k d e h = rw e h
-
-pub pictured_not : (w : List ℕ) (k : Rule.Description → Result Samples) (row lent : List ℕ) → described_by w ≡ refused row →
-    Pictured (bind (described_by w) k) lent lent (refused row)
-unfolding bind into
-pictured_not w k row lent e = rw e (record { answered = refl; memory = refl })
+    record {
+      returned = first ∙ ap (λ (l : List ℕ). get_or l 0 0) is ∙ picture_number (into s (length lent));
+      answered = same ∙ is;
+      memory = h.memory;
+    }

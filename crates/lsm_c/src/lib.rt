@@ -3,6 +3,7 @@
 // come one by one, a description as its words and a coordinate as four numbers, since that is how C hands them in.
 #![tactic(auto)]
 
+ghost use Rattle.std.specs.Prelude.{◌≡◌, ◌<◌, get_or};
 ghost use Rattle.lsm_format.specs.Code.{answer_by};
 ghost use Rattle.lsm_channel_colors.specs.Code.{meta_of};
 ghost use Rattle.lsm_c.specs.Calls.{OpenedBy, Answered, LookedUp};
@@ -16,16 +17,26 @@ use lsm_words::description::{DESCRIPTION_WORDS, read_description};
 
 pub mod pictures;
 
+// Hands an answer's words to the caller, and returns the first of them.
+pub(crate) fn hand<const N: usize>(words: [usize; N], answer: &mut [usize; N]) -> usize
+    requires { 0 < N }
+    ensures handed { answer.new ≡ words.entry }
+    ensures first { result ≡ get_or words.entry 0 0 }
+{
+    *answer = words;
+    words[0]
+}
+
 // Opens a file and writes its strips into the table.
+#[tactic(auto, using(crate::proofs::Calls::opened_by))]
 pub fn lsm_open(file: &[u8], table: &mut [usize], answer: &mut [usize; OPEN_WORDS]) -> usize
     ensures { OpenedBy file.now table.old table.new answer.new result }
 {
-    let opened = open_words(open_file(file, table));
-    *answer = opened;
-    opened[0]
+    hand(open_words(open_file(file, table)), answer)
 }
 
 // The lookup with the description that these words are. No description is refused before anything else.
+#[tactic(auto, unfolding(crate::specs::Calls::lookup_by, crate::specs::Calls::lookup_memory_by, lsm_format::specs::Answer::bind))]
 fn look_up(
     file: &[u8],
     description: &[usize; DESCRIPTION_WORDS],
@@ -39,6 +50,7 @@ fn look_up(
 }
 
 // The colour and name of a channel. The name's text is written to `name`.
+#[tactic(auto, using(crate::proofs::Calls::looked_up))]
 pub fn lsm_channel(
     file: &[u8],
     description: &[usize; DESCRIPTION_WORDS],
@@ -48,7 +60,8 @@ pub fn lsm_channel(
 ) -> usize
     ensures { LookedUp file.now description.now index name.old name.new answer.new result }
 {
-    let found = channel_words(look_up(file, description, index, name));
-    *answer = found;
-    found[0]
+    hand(
+        channel_words(look_up(file, description, index, name)),
+        answer,
+    )
 }

@@ -4,6 +4,7 @@ ghost use Rattle.lsm_format.specs.Rectangle.{coordinate};
 ghost use Rattle.lsm_region.specs.Code.{shape_of_picture, Pictured};
 ghost use Rattle.lsm_c.specs.Calls.{plane_by, region_by, PicturedBy};
 
+use crate::hand;
 use lsm_format::error::Refusal;
 use lsm_format::types::{Coordinate, PixelRect};
 use lsm_region::{Picture, plane, region};
@@ -11,6 +12,7 @@ use lsm_words::answers::{PICTURE_WORDS, picture_words};
 use lsm_words::description::{DESCRIPTION_WORDS, read_description};
 
 // The picture with the description that these words are. No description is refused before anything else.
+#[tactic(auto, unfolding(crate::specs::Calls::plane_by, lsm_format::specs::Picture::into, lsm_format::specs::Answer::bind))]
 fn plane_by(
     file: &[u8],
     description: &[usize; DESCRIPTION_WORDS],
@@ -24,6 +26,7 @@ fn plane_by(
     plane(file, d, table, co, out)
 }
 
+#[tactic(auto, unfolding(crate::specs::Calls::region_by, lsm_format::specs::Picture::into, lsm_format::specs::Answer::bind))]
 fn region_by(
     file: &[u8],
     description: &[usize; DESCRIPTION_WORDS],
@@ -39,6 +42,7 @@ fn region_by(
 }
 
 // A whole picture. Its samples are written to `out`, little-endian, row by row.
+#[tactic(auto, using(crate::proofs::Calls::pictured_by))]
 pub fn lsm_plane(
     file: &[u8],
     description: &[usize; DESCRIPTION_WORDS],
@@ -53,12 +57,14 @@ pub fn lsm_plane(
     ensures { PicturedBy (plane_by description.now table.now file.now (coordinate scene t c z)) out.old out.new answer.new result }
 {
     let co = Coordinate { scene, t, c, z };
-    let words = picture_words(plane_by(file, description, table, co, out));
-    *answer = words;
-    words[0]
+    hand(
+        picture_words(plane_by(file, description, table, co, out)),
+        answer,
+    )
 }
 
 // A rectangle of a picture: column x, row y, w columns and h rows.
+#[tactic(auto, using(crate::proofs::Calls::pictured_by))]
 pub fn lsm_region(
     file: &[u8],
     description: &[usize; DESCRIPTION_WORDS],
@@ -78,7 +84,8 @@ pub fn lsm_region(
 {
     let co = Coordinate { scene, t, c, z };
     let rect = PixelRect { x, y, w, h };
-    let words = picture_words(region_by(file, description, table, co, rect, out));
-    *answer = words;
-    words[0]
+    hand(
+        picture_words(region_by(file, description, table, co, rect, out)),
+        answer,
+    )
 }

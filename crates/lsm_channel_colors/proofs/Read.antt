@@ -16,14 +16,14 @@ use lib.Seq.{take_all, get_or-take, get_or-drop}
 use native.Mathlib.Nat.{add-zero}
 use Rattle.lsm_format.specs.Answer.{Result, accepted, refused, bind, parse}
 use Rattle.lsm_format.specs.Code.{answer_of}
-use Rattle.lsm_format.specs.Numbers.{Order, i32_at}
+use Rattle.lsm_format.specs.Numbers.{Order, positive_of, i32_at}
 use Rattle.lsm_format.specs.Words.{word}
 use Rattle.lsm_format.specs.Channels.{record_by, record_of, name_record, kept, pointers, color, color_at, name_span}
 use Rattle.lsm_format.specs.declared.error.Refusal.{Refusal}
 use Rattle.lsm_format.proofs.Numbers.{number_past, part_past, part_there}
 use Rattle.lsm_format.proofs.Words.{word_none, word_some}
 use Rattle.lsm_format.proofs.Channels.{color_past, color_there, record_unread, record_last, record_ends, record_next}
-use Rattle.lsm_channel_colors.specs.Tables.{natural, pointed, read}
+use Rattle.lsm_channel_colors.specs.Tables.{natural, read}
 
 -- a read that may fail, by what it read
 pub ok_read : {A : Type 0} (r : Answered A Refusal) → result_ok r ≡ read (answer_of r)
@@ -86,7 +86,7 @@ color_chunk f rest y at h is e =
     rw (g 0 (omega arith), g 1 (omega arith), g 2 (omega arith), add-zero) (color_there f at enough)
 
 pub color_with : (f : List ℕ) (block : ℕ) (z : ℤ) (channel : ℕ) → length f < 2 ^ 64 → color f block z channel
-    ≡ elim (pointed z) [ None ↦ None | Some n ↦ elim (word (block + n + 4 * channel)) [ None ↦ None | Some place ↦ color_at f place ] ]
+    ≡ elim (positive_of z) [ None ↦ None | Some n ↦ elim (word (block + n + 4 * channel)) [ None ↦ None | Some place ↦ color_at f place ] ]
 unfolding color
 color_with f block (pos zero) channel h = refl
 color_with f block (pos (suc n)) channel h =
@@ -107,7 +107,7 @@ over_by o f place zero e = record_unread o f place e ∙ record_last o f place 0
 over_by o f place (suc channel) e = record_ends o f place (suc channel) (omega arith) (sym (record_unread o f place e))
 
 pub name_with : (o : Order) (f : List ℕ) (block : ℕ) (z : ℤ) (channel : ℕ) → length f < 2 ^ 64 → name_span o f block z channel
-    ≡ elim (pointed z) [ None ↦ None | Some n ↦ elim (word (block + n)) [ None ↦ None | Some first ↦ kept (record_of o f first channel) ] ]
+    ≡ elim (positive_of z) [ None ↦ None | Some n ↦ elim (word (block + n)) [ None ↦ None | Some first ↦ kept (record_of o f first channel) ] ]
 unfolding name_span
 name_with o f block (pos zero) channel h = refl
 name_with o f block (pos (suc n)) channel h =

@@ -1,18 +1,13 @@
 -- What the functions answer, in the definitions' terms.
-use Rattle.std.specs.Prelude.{ℕ, zero, suc, ℤ, pos, negsuc, List, take, drop, Option, None, Some}
+use Rattle.std.specs.Prelude.{ℕ, ℤ, pos, negsuc, List, take, drop, Option, None, Some}
 use Rattle.lsm_format.specs.Answer.{Result, accepted, refused}
 use Rattle.lsm_channel_colors.specs.declared.tables.Pointers.{Pointers}
 use Rattle.lsm_channel_colors.specs.declared.tables.Record.{Record}
 
--- A length as the file states it, and a pointer: "a negative length" ends the names, "a pointer ≤ 0 means none of that sort".
+-- A length as the file states it: "a negative length" ends the names.
 abbrev pub natural : ℤ → Option ℕ
 natural (pos n) = Some n
 natural (negsuc n) = None
-
-abbrev pub pointed : ℤ → Option ℕ
-pointed (pos zero) = None
-pointed (pos (suc n)) = Some (suc n)
-pointed (negsuc n) = None
 
 -- What a rule accepts, if it does.
 abbrev pub read : {A : Type 0} → Result A → Option A

@@ -10,7 +10,8 @@ ghost use Rattle.lsm_format.specs.Words.{word};
 ghost use Rattle.lsm_channel_colors.specs.Code.{meta_of, Looked};
 ghost use Rattle.lsm_channel_colors.specs.Parts.{Stating};
 
-use crate::tables::{find_name, read_pointers, table_of};
+use crate::tables::{find_name, read_pointers};
+use lsm_bytes::positive;
 use lsm_format::checked::{checked_add, checked_mul};
 use lsm_format::error::Refusal;
 use lsm_format::types::Endian;
@@ -59,7 +60,7 @@ fn color_place(block: usize, table: usize, channel: usize) -> Option<usize>
 fn read_color(buf: &[u8], block: usize, colors: i32, channel: usize) -> Option<[u8; 3]>
     ensures { result ≡ color buf.now block colors channel }
 {
-    let table = table_of(colors)?;
+    let table = positive(colors)?;
     color_at(buf, color_place(block, table, channel)?)
 }
 
@@ -113,12 +114,13 @@ pub fn read_channel(
         });
     }
     let stated = find_channel(buf, block, endian, channel);
-    let length = match stated.name {
-        Some(bytes) => Some(decode_lossy(trimmed(bytes), name)?),
-        None => None,
+    let color = stated.color;
+    let Some(bytes) = stated.name else {
+        return Ok(ChannelMeta { color, name: None });
     };
+    let length = decode_lossy(trimmed(bytes), name)?;
     Ok(ChannelMeta {
-        color: stated.color,
-        name: length,
+        color,
+        name: Some(length),
     })
 }

@@ -2,9 +2,9 @@
 ghost use Rattle.std.specs.Prelude.{◌≡◌, ◌+◌, ◌≤◌, length, option_map, IfSome};
 ghost use Rattle.lsm_format.specs.Channels.{pointers, name_record, record_of, name_span};
 ghost use Rattle.lsm_format.specs.Code.{order_of};
-ghost use Rattle.lsm_channel_colors.specs.Tables.{natural, pointed, read, pointers_of, span_of, bytes_in};
+ghost use Rattle.lsm_channel_colors.specs.Tables.{natural, read, pointers_of, span_of, bytes_in};
 
-use lsm_bytes::read_i32;
+use lsm_bytes::{positive, read_i32};
 use lsm_format::checked::checked_add;
 use lsm_format::types::Endian;
 
@@ -33,13 +33,6 @@ fn counted(n: i32) -> Option<usize>
     ensures { result ≡ natural n }
 {
     usize::try_from(n).ok()
-}
-
-// A pointer: 0 and below point to nothing.
-pub(crate) fn table_of(pointer: i32) -> Option<usize>
-    ensures { result ≡ pointed pointer }
-{
-    counted(pointer).filter(|n| *n > 0)
 }
 
 // The file and its byte order stay two arguments here, as in `read_i32` and in `read_channel`.
@@ -72,7 +65,7 @@ fn name_record(buf: &[u8], place: usize, endian: Endian) -> Option<Record>
 }
 
 // The record of a channel, from the place of the first: each is read once. A record takes at least four bytes, so that the
-// file's end is met before a large channel number is counted down.
+// file's end is met long before a large channel number.
 #[tactic(auto, using(crate::proofs::Read::record_turn, lsm_format::proofs::Channels::record_ends, lsm_format::proofs::Channels::record_last))]
 fn find_record(buf: &[u8], first: usize, endian: Endian, channel: usize) -> Option<Record>
     ensures is { option_map span_of result ≡ record_of (order_of endian) buf.now first channel }
@@ -97,7 +90,7 @@ pub(crate) fn find_name(
 ) -> Option<&[u8]>
     ensures { option_map (λ name. name.now) result ≡ option_map (bytes_in buf.now) (name_span (order_of endian) buf.now block names channel) }
 {
-    let table = table_of(names)?;
+    let table = positive(names)?;
     let first = checked_add(block, table)?;
     let record = find_record(buf, first, endian, channel)?;
     if MAX_NAME_BYTES < record.len {

@@ -1,4 +1,4 @@
--- The magic number by its bits, as a number that is signed goes. Assumes nothing.
+-- The magic number by its bits; the check of `Block::open` finds it alone. Assumes nothing.
 use mathlib.Core.Path.{◌≡◌, sym, ap, ◌∙◌}
 use mathlib.Core.Bool.{true}
 use Prim.Native.Nat.{◌^◌, ◌<◌}

@@ -4,7 +4,7 @@ ghost use Rattle.lsm_format.specs.Code.{order_of, answer_of, answer_by};
 ghost use Rattle.lsm_format.specs.Numbers.{i32_at, f64_bits_at};
 ghost use Rattle.lsm_format.specs.CzInfo.{block_length, header};
 
-use lsm_bytes::{read_f64_bits, read_i32};
+use lsm_bytes::{positive, read_f64_bits, read_i32};
 use lsm_format::error::Refusal;
 use lsm_format::types::{CzTag, Endian};
 
@@ -23,10 +23,7 @@ const DIMENSIONS_END: usize = 28;
 fn block_length(declared: usize, size: i32) -> usize
     ensures { result ≡ block_length declared size }
 {
-    match usize::try_from(size) {
-        Ok(own) if own > 0 => declared.min(own),
-        _ => declared,
-    }
+    positive(size).map_or(declared, |own| declared.min(own))
 }
 
 // A block that lies in the file, and is long enough for the dimensions.
@@ -45,7 +42,7 @@ pub(crate) struct Block<'a> {
 impl<'a> Block<'a> {
     // The block that the entry announces, once it is known to be one.
     #[tactic(auto, unfolding(lsm_format::specs::CzInfo::header, lsm_format::specs::Answer::bind))]
-    pub fn open(buf: &'a [u8], tag: CzTag, endian: Endian) -> Result<Block<'a>, Refusal>
+    pub(crate) fn open(buf: &'a [u8], tag: CzTag, endian: Endian) -> Result<Block<'a>, Refusal>
         ensures header { answer_by (λ b. b.bytes) result ≡ header (order_of endian) buf.now tag.offset tag.declared_bytes }
         ensures place { IfOk result (λ b. (b.buf.now ≡ buf.now) × (b.start ≡ tag.offset) × (b.endian ≡ endian)) }
     {
@@ -71,7 +68,7 @@ impl<'a> Block<'a> {
     }
 
     // The number that starts at `at` in the block. It and the next differ in the reader that they call: a generic one would need a trait for two.
-    pub fn number(&self, at: usize) -> Result<i32, Refusal>
+    pub(crate) fn number(&self, at: usize) -> Result<i32, Refusal>
         requires { at < self.now.bytes }
         ensures { answer_of result ≡ i32_at (order_of self.now.endian) self.now.buf.now (self.now.start + at) }
     {
@@ -79,7 +76,7 @@ impl<'a> Block<'a> {
     }
 
     // The bits of the f64 that starts at `at` in the block.
-    pub fn float_bits(&self, at: usize) -> Result<u64, Refusal>
+    pub(crate) fn float_bits(&self, at: usize) -> Result<u64, Refusal>
         requires { at < self.now.bytes }
         ensures { answer_of result ≡ f64_bits_at (order_of self.now.endian) self.now.buf.now (self.now.start + at) }
     {

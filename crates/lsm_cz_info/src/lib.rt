@@ -6,12 +6,13 @@ mod block;
 ghost use Rattle.std.specs.Prelude.{◌≡◌, leb, pos, None};
 ghost use Rattle.lsm_format.specs.Calibration.{uncalibrated};
 ghost use Rattle.lsm_format.specs.Code.{order_of, answer_of, answer_by};
-ghost use Rattle.lsm_format.specs.CzInfo.{extents, stated, voxels, block_place, channel_block, shots, from, cz_info};
+ghost use Rattle.lsm_format.specs.CzInfo.{extents, stated, voxels, channel_block, shots, from, cz_info};
 ghost use Rattle.calibration.specs.Calibrated.{calibration_of};
 ghost use Rattle.lsm_cz_info.specs.Code.{stated_of, shots_of, info_of};
 
 use crate::block::Block;
 use calibration::{Calibration, calibrate};
+use lsm_bytes::positive;
 use lsm_format::error::Refusal;
 use lsm_format::types::{CzTag, Endian};
 
@@ -47,6 +48,7 @@ const DIM_M_AT: usize = 268;
 
 const COUNTS_END: usize = 272;
 
+// What the block states.
 #[derive(Clone, Copy)]
 pub struct CzInfo {
     pub dim_x: u32,
@@ -87,6 +89,7 @@ struct Shots {
     m: i32,
 }
 
+// The dimensions.
 #[tactic(auto, unfolding(lsm_format::specs::CzInfo::extents, lsm_format::specs::Answer::bind))]
 fn read_extents(block: &Block<'_>) -> Result<Extents, Refusal>
     ensures { answer_by stated_of result ≡ extents (order_of block.now.endian) block.now.buf.now block.now.start }
@@ -116,13 +119,6 @@ fn read_voxels(block: &Block<'_>) -> Result<Option<Calibration>, Refusal>
     Ok(calibrate(x, y, z))
 }
 
-// The place that the block states; one that is not above 0 is none.
-fn placed(n: i32) -> Option<usize>
-    ensures { result ≡ block_place n }
-{
-    usize::try_from(n).ok().filter(|&at| at > 0)
-}
-
 #[tactic(auto, unfolding(lsm_format::specs::CzInfo::channel_block, lsm_format::specs::Answer::bind))]
 fn read_channel_block(block: &Block<'_>) -> Result<Option<usize>, Refusal>
     ensures { answer_of result ≡ from (leb 112 block.now.bytes) (channel_block (order_of block.now.endian) block.now.buf.now block.now.start) None }
@@ -131,7 +127,7 @@ fn read_channel_block(block: &Block<'_>) -> Result<Option<usize>, Refusal>
         return Ok(None);
     }
     let n = block.number(CHANNEL_COLORS_AT)?;
-    Ok(placed(n))
+    Ok(positive(n))
 }
 
 #[tactic(auto, unfolding(lsm_format::specs::CzInfo::shots, lsm_format::specs::Answer::bind))]

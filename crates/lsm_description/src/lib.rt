@@ -80,7 +80,7 @@ fn is_interleaved(channels: usize, planar: bool) -> bool
 }
 
 // Whether the first full page agrees with the CZ block.
-#[tactic(auto, using(lsm_values::proofs::Laws::values_length), unfolding(lsm_format::specs::Open::agreement, lsm_format::specs::Answer::bind))]
+#[tactic(auto, using(lsm_directory::proofs::Laws::lengths), unfolding(lsm_format::specs::Open::agreement, lsm_format::specs::Answer::bind))]
 fn check_agreement(page: Directory, info: CzInfo) -> Result<(), Refusal>
     ensures { (o : Order) (f : List ℕ) → answer_of result ≡ agreement (directory_of o f page) (info_of info) }
 {
@@ -92,7 +92,7 @@ fn check_agreement(page: Directory, info: CzInfo) -> Result<(), Refusal>
     if info.dim_channels as usize != channels {
         return Err(Refusal::Decode);
     }
-    if is_interleaved(channels, page.planar_configuration == 2) {
+    if is_interleaved(channels, page.is_planar()) {
         return Err(Refusal::Unsupported);
     }
     if strips == 0 || strips % channels != 0 {

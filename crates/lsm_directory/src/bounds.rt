@@ -1,4 +1,6 @@
-// What stands at a directory's two ends. A struct with ghost fields has a file of its own, since the meaning of its values names the struct.
+// What stands at a directory's two ends. Its ghost fields say how large the two numbers can be, so that the places reckoned from them fit the
+// machine. A struct with ghost fields brings every `ghost use` of its file along; `ends_of` of specs/Code.antt names this struct and lib.rt
+// imports `ends_of`, so in lib.rt the imports would go in a circle.
 ghost use Rattle.std.specs.Prelude.{ℕ, ◌<◌, ◌^◌};
 
 // How many entries a directory has, and where the next directory stands.

@@ -5,7 +5,7 @@ ghost use Rattle.std.specs.Prelude.{◌≡◌, ℕ, List, option_map};
 ghost use Rattle.lsm_format.specs.Code.{order_of, answer_of, answer_by};
 ghost use Rattle.lsm_format.specs.Numbers.{Order};
 ghost use Rattle.lsm_format.specs.Directory as Rule;
-ghost use Rattle.lsm_format.specs.Directory.{plain, tag_of, is_reduced, is_short, cz_lsm_info, entry_by, entry};
+ghost use Rattle.lsm_format.specs.Directory.{plain, planar, tag_of, is_reduced, is_short, cz_lsm_info, entry_by, entry};
 ghost use Rattle.lsm_format.specs.Open.{same_geometry};
 ghost use Rattle.lsm_format.specs.Open as Open;
 ghost use Rattle.lsm_directory.specs.Code.{field_meant, tag_meant, numbers_of, directory_of, put_stated, ends_of};
@@ -34,23 +34,34 @@ pub struct Directory {
     pub cz: Option<CzTag>,
 }
 
-// What a directory states that states nothing.
-#[tactic(auto, unfolding(lsm_values::specs::Values::values))]
-pub fn plain_directory() -> Directory
-    ensures { (o : Order) (f : List ℕ) → directory_of o f result ≡ plain }
-{
-    Directory {
-        new_subfile_type: 0,
-        width: 0,
-        height: 0,
-        bits: 1,
-        compression: 1,
-        samples: 1,
-        planar_configuration: 1,
-        sample_format: 1,
-        offsets: StripArray::EMPTY,
-        counts: StripArray::EMPTY,
-        cz: None,
+impl Default for Directory {
+    ghost is_default = { λ d. (o : Order) (f : List ℕ) → directory_of o f d ≡ plain };
+
+    // What a directory states that states nothing.
+    #[tactic(auto, unfolding(lsm_values::specs::Values::values))]
+    fn default() -> Directory {
+        Directory {
+            new_subfile_type: 0,
+            width: 0,
+            height: 0,
+            bits: 1,
+            compression: 1,
+            samples: 1,
+            planar_configuration: 1,
+            sample_format: 1,
+            offsets: StripArray::EMPTY,
+            counts: StripArray::EMPTY,
+            cz: None,
+        }
+    }
+}
+
+impl Directory {
+    // Whether each channel has a plane of samples of its own. Any other number than 2 says that it has none.
+    pub fn is_planar(self) -> bool
+        ensures { result ≡ planar (numbers_of self) }
+    {
+        self.planar_configuration == 2
     }
 }
 
@@ -85,6 +96,7 @@ impl Field {
     }
 }
 
+// What an entry is for, by its tag.
 #[derive(Clone, Copy)]
 pub enum Tag {
     Field(Field),
@@ -228,7 +240,7 @@ fn same_geometry(a: Directory, b: Directory) -> bool
         && a.bits == b.bits
         && a.sample_format == b.sample_format
         && a.compression == b.compression
-        && (a.planar_configuration == 2) == (b.planar_configuration == 2)
+        && a.is_planar() == b.is_planar()
 }
 
 // Whether a directory whose entries are all read can stand where it does: it has as many strip lengths as offsets, and a full page

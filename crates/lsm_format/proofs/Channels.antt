@@ -147,7 +147,7 @@ channel_inside o f (suc channel) place s n e =
 
 -- ---- trailing zeros
 
-trim_zero : (bs : List ℕ) → trimmed (bs ++ 0 ∷ []) ≡ trimmed bs
+pub trim_zero : (bs : List ℕ) → trimmed (bs ++ 0 ∷ []) ≡ trimmed bs
 trim_zero [] = refl
 trim_zero (b ∷ bs) = rw (trim_zero bs)
 
@@ -156,7 +156,7 @@ trailing_some zero c [] = refl
 trailing_some zero c (d ∷ bs) = refl
 trailing_some (suc b) c bs = refl
 
-trim_kept : (bs : List ℕ) (c : ℕ) → trimmed (bs ++ suc c ∷ []) ≡ bs ++ suc c ∷ []
+pub trim_kept : (bs : List ℕ) (c : ℕ) → trimmed (bs ++ suc c ∷ []) ≡ bs ++ suc c ∷ []
 trim_kept [] c = refl
 trim_kept (b ∷ bs) c = rw (trim_kept bs c) (trailing_some b (suc c) bs)
 

@@ -53,7 +53,7 @@ whole_bytes d t s w =
 
 -- what the whole-row test tells where it says yes: rows have bytes and fit the machine, and all pages hold whole rows
 pub record WholeRows (d : Description) (t : List ℕ) : Type 0 where
-  pub Some : 0 < row_bytes d
+  pub some : 0 < row_bytes d
   pub fits : row_bytes d < 2 ^ 64
   pub all : whole_pages d t (pages d.layout) ≡ true
 
@@ -65,7 +65,7 @@ whole_rows_lem d t e =
     let a = both_hold (not (eqb (row_bytes d) 0)) (ltb (row_bytes d) (2 ^ 64) && (few && all)) e in
     let b = both_hold (ltb (row_bytes d) (2 ^ 64)) (few && all) a.1 in
     let n = eqb-false (row_bytes d) 0 (not-true _ a.0) in
-    record { Some = omega arith; fits = ltb-true _ _ b.0; all = (both_hold few all b.1).1 }
+    record { some = omega arith; fits = ltb-true _ _ b.0; all = (both_hold few all b.1).1 }
 
 -- the last of the numbers below suc m, or one before it
 pub below : {C : Type 0} (k m : ℕ) → k < suc m → (k < m → C) → (k ≡ m → C) → C

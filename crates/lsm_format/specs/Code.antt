@@ -1,6 +1,6 @@
 -- What the code's types mean in the definitions' terms. For each enum that a function answers, its document 01 number and
 -- values, or its value.
-use Rattle.std.specs.Prelude.{ℕ, ◌-◌, ◌≡◌, List, ◌++◌, length, replicate, Result as Answered, Ok, Err}
+use Rattle.std.specs.Prelude.{ℕ, List, Result as Answered, Ok, Err}
 use Rattle.lsm_format.specs.Answer.{Result, accepted, refused, parse, decode, unsupported, oversized_allocation, scene_out_of_range, out_of_range, too_short}
 use Rattle.lsm_format.specs.Numbers.{Order, little, big}
 use Rattle.lsm_format.specs.Sizes.{Kind, u8, u16, i16, f32}
@@ -25,11 +25,6 @@ row_of (OversizedAllocation requested cap) = oversized_allocation requested cap
 row_of (SceneOutOfRange scene count) = scene_out_of_range scene count
 row_of (OutOfRange scene t c z) = out_of_range scene t c z
 row_of (TooShort needed) = too_short needed
-
--- A row in an array of five numbers: as many as the row has, then zeros.
-pub record Numbered (row : List ℕ) (numbers : List ℕ) (len : ℕ) : Type 0 where
-  pub whole : numbers ≡ row ++ replicate (5 - length row) 0
-  pub count : len ≡ length row
 
 abbrev pub order_of : Endian → Order
 order_of Little = little

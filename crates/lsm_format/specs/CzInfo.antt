@@ -1,8 +1,8 @@
 -- The CZ-LSM-Info block (lsm_cz_info.rs; CZ-LSMINFO, whose field names stand beside the offsets).
-use Rattle.std.specs.Prelude.{ℕ, zero, suc, ◌+◌, ◌-◌, min, Bool, true, false, ◌&&◌, List, leb, eqb, ℤ, pos, negsuc, length, Option, None, Some}
+use Rattle.std.specs.Prelude.{ℕ, zero, suc, ◌+◌, ◌-◌, min, Bool, true, false, ◌&&◌, List, leb, eqb, ℤ, pos, negsuc, length, Option, None}
 use Rattle.lsm_format.specs.Answer.{Result, accepted, bind, need, decode, unsupported}
 use Rattle.lsm_format.specs.Ranges.{Ranges, nothing, at, both, over, in_file}
-use Rattle.lsm_format.specs.Numbers.{Order, i32_at, f64_bits_at}
+use Rattle.lsm_format.specs.Numbers.{Order, positive_of, i32_at, f64_bits_at}
 use Rattle.lsm_format.specs.Calibration.{Calibration, uncalibrated, calibration}
 
 -- What the block states: DimensionX, Y, Z, Channels and Time; DimensionP and M; the channel block's place; the calibration.
@@ -85,9 +85,7 @@ voxels o f block =
 
 -- "the channel block's offset (≤ 0 is none)"
 abbrev pub block_place : ℤ → Option ℕ
-block_place (pos zero) = None
-block_place (pos (suc n)) = Some (suc n)
-block_place (negsuc n) = None
+block_place n = positive_of n
 
 -- "from 112 the channel block's offset": OffsetChannelColors at 108.
 unfoldable pub channel_block : Order → List ℕ → ℕ → Result (Option ℕ)

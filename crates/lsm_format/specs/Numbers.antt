@@ -1,5 +1,5 @@
 -- Numbers at an offset of the file (lsm_bytes.rs; TIFF 6.0, section 2).
-use Rattle.std.specs.Prelude.{ℕ, ◌+◌, ◌*◌, ◌^◌, true, false, List, [], ◌∷◌, reverse, leb, ltb, ℤ, pos, ◌-ℤ◌, length, take, drop}
+use Rattle.std.specs.Prelude.{ℕ, zero, suc, ◌+◌, ◌*◌, ◌^◌, true, false, List, [], ◌∷◌, reverse, leb, ltb, ℤ, pos, negsuc, ◌-ℤ◌, length, take, drop, Option, None, Some}
 use Rattle.lsm_format.specs.Answer.{Result, accepted, bind, need, parse}
 use Rattle.lsm_format.specs.Ranges.{Ranges, in_file}
 
@@ -50,3 +50,9 @@ signed32 n = elim (ltb n (2 ^ 31)) [ true ↦ pos n | false ↦ pos n -ℤ pos (
 
 unfoldable pub i32_at : Order → List ℕ → ℕ → Result ℤ
 i32_at o f at = bind (u32_at o f at) (λ n. accepted (signed32 n))
+
+-- A signed number that states a place or a length: one that is not above 0 states none.
+abbrev pub positive_of : ℤ → Option ℕ
+positive_of (pos zero) = None
+positive_of (pos (suc n)) = Some (suc n)
+positive_of (negsuc n) = None

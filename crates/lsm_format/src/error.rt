@@ -1,5 +1,5 @@
 // Document 01's refusals.
-ghost use Rattle.std.specs.Prelude.{◌≡◌};
+ghost use Rattle.std.specs.Prelude.{◌≡◌, ◌≤◌, length};
 ghost use Rattle.lsm_format.specs.Code.{row_of};
 
 use arrayvec::ArrayVec;
@@ -35,38 +35,29 @@ pub enum Refusal {
     },
 }
 
+// The row of these numbers. The longest has five, so there is room for all of them.
+fn row(numbers: &[usize]) -> ArrayVec<usize, 5>
+    requires { length numbers.now ≤ 5 }
+    ensures { result.items ≡ numbers.now }
+{
+    let mut row = ArrayVec::new();
+    let _fits = row.try_extend_from_slice(numbers);
+    row
+}
+
 impl Refusal {
     // A refusal's number and values in document 01's order.
     pub fn numbers(self) -> ArrayVec<usize, 5>
         ensures { result.items ≡ row_of self }
     {
-        let mut row = ArrayVec::new();
         match self {
-            Refusal::Parse => row.push(1),
-            Refusal::Decode => row.push(2),
-            Refusal::Unsupported => row.push(3),
-            Refusal::OversizedAllocation { requested, cap } => {
-                row.push(4);
-                row.push(requested);
-                row.push(cap);
-            }
-            Refusal::SceneOutOfRange { scene, count } => {
-                row.push(5);
-                row.push(scene);
-                row.push(count);
-            }
-            Refusal::OutOfRange { scene, t, c, z } => {
-                row.push(6);
-                row.push(scene);
-                row.push(t);
-                row.push(c);
-                row.push(z);
-            }
-            Refusal::TooShort { needed } => {
-                row.push(7);
-                row.push(needed);
-            }
+            Refusal::Parse => row(&[1]),
+            Refusal::Decode => row(&[2]),
+            Refusal::Unsupported => row(&[3]),
+            Refusal::OversizedAllocation { requested, cap } => row(&[4, requested, cap]),
+            Refusal::SceneOutOfRange { scene, count } => row(&[5, scene, count]),
+            Refusal::OutOfRange { scene, t, c, z } => row(&[6, scene, t, c, z]),
+            Refusal::TooShort { needed } => row(&[7, needed]),
         }
-        row
     }
 }

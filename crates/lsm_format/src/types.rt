@@ -1,5 +1,5 @@
 // Dimensions, kinds of samples, rectangles.
-ghost use Rattle.std.specs.Prelude.{◌≡◌};
+ghost use Rattle.std.specs.Prelude.{◌≡◌, ◌+◌, leb};
 ghost use Rattle.lsm_format.specs.Code.{kind_of, dims_of, rect_of, coordinate_of, answer_of};
 ghost use Rattle.lsm_format.specs.Sizes.{sample_size, unlimited_size, picture_size};
 ghost use Rattle.lsm_format.specs.Rectangle.{is_empty, within, coordinates, rectangle, in_picture};
@@ -137,10 +137,12 @@ pub fn checked_coordinates(dims: Dims5, co: Coordinate) -> Result<(), Refusal>
     Ok(())
 }
 
-// Whether start plus extent doesn't overflow and is at most the size.
+// Whether start plus extent doesn't overflow and is at most the size. The rule of rectangles names the overflow, that of strips the end alone; a size
+// is a number of the machine, so that it is the same.
 #[tactic(auto, unfolding(crate::specs::Words::word))]
-fn within_size(start: usize, extent: usize, size: usize) -> bool
-    ensures { result ≡ within start extent size }
+pub fn within_size(start: usize, extent: usize, size: usize) -> bool
+    ensures side { result ≡ within start extent size }
+    ensures end { result ≡ leb (start + extent) size }
 {
     checked_add(start, extent).is_some_and(|end| end <= size)
 }

@@ -21,7 +21,7 @@ fn first_file(all: &[u8]) -> Option<(&[u8], &[u8])>
 }
 
 // Lists them all.
-#[tactic(auto, using(crate::proofs::Listing::listing))]
+#[tactic(auto, using(crate::proofs::Listing::listing), unfolding(crate::specs::Stored::printouts, crate::specs::Stored::printouts_by))]
 fn list_all<W: Write>(out: &mut W, all: &[u8]) -> io::Result<()>
     ensures { OnOk result (Appends (W.contents out.old) (W.contents out.new) (printouts all.now)) }
 {

@@ -14,6 +14,7 @@ use lsm_format::checked::{checked_add, checked_mul};
 use lsm_format::error::Refusal;
 use lsm_format::types::Coordinate;
 
+// How a file's pages are shared out.
 #[derive(Clone, Copy)]
 pub struct LsmLayout {
     // How many scenes the file holds.
@@ -37,18 +38,6 @@ fn points_before(scene: usize, time_points: usize, t: usize) -> Option<usize>
     ensures { result ≡ word (scene * time_points + t) }
 {
     checked_add(checked_mul(scene, time_points)?, t)
-}
-
-// The pages of so many time points. They are reckoned exactly: where a time point has no page there are none, though the number of time
-// points overflow.
-#[tactic(auto, using(lsm_format::proofs::Words::product_none, lsm_format::proofs::Words::word_some, lsm_format::proofs::Words::word_fits))]
-fn pages_of(points: Option<usize>, depth: usize) -> Option<usize>
-    ensures { (n : ℕ) → points ≡ word n → result ≡ word (n * depth) }
-{
-    if depth == 0 {
-        return Some(0);
-    }
-    checked_mul(points?, depth)
 }
 
 impl LsmLayout {
@@ -76,26 +65,37 @@ impl LsmLayout {
         self.scenes
     }
 
-    // The pages that the whole file must hold.
+    // The pages of all time points before a scene's time point `t`. They are reckoned exactly: where a time point has no page there are
+    // none, though the number of time points overflow.
+    #[tactic(auto, using(lsm_format::proofs::Words::product_none, lsm_format::proofs::Words::word_some, lsm_format::proofs::Words::word_fits))]
+    fn pages_before(self, scene: usize, t: usize) -> Option<usize>
+        ensures { result ≡ word ((scene * self.time_points + t) * self.pages_per_time_point) }
+    {
+        if self.pages_per_time_point == 0 {
+            return Some(0);
+        }
+        let points = points_before(scene, self.time_points, t)?;
+        checked_mul(points, self.pages_per_time_point)
+    }
+
+    // The pages that the whole file must hold: all before the scene that would come after the last.
     #[tactic(auto, using(lsm_format::proofs::Told::ok_or_given), unfolding(lsm_format::specs::Scenes::pages_expected))]
     pub fn expected_pages(self) -> Result<usize, Refusal>
         ensures { answer_of result ≡ pages_expected (layout_of self) }
     {
-        let points = checked_mul(self.scenes, self.time_points);
-        pages_of(points, self.pages_per_time_point).ok_or(Refusal::Decode)
+        self.pages_before(self.scenes, 0).ok_or(Refusal::Decode)
     }
 
     // The page of a focal plane: the file has every page of the first scene, then every page of the second, and so on; and of a scene
     // every page of the first time point, then every page of the second. None for a scene that is not there, and where the number overflows.
-    #[tactic(auto, using(lsm_format::proofs::Scenes::page_outside, lsm_format::proofs::Scenes::page_over, lsm_format::proofs::Scenes::page_at))]
+    #[tactic(auto, unfolding(lsm_format::specs::Scenes::page_of), using(lsm_format::proofs::Words::sum_none, lsm_format::proofs::Words::word_some))]
     pub fn page_index(self, co: Coordinate) -> Option<usize>
         ensures { result ≡ page_of (layout_of self) (coordinate_of co) }
     {
         if self.scenes <= co.scene {
             return None;
         }
-        let points = points_before(co.scene, self.time_points, co.t);
-        let first = pages_of(points, self.pages_per_time_point)?;
+        let first = self.pages_before(co.scene, co.t)?;
         checked_add(first, co.z)
     }
 }

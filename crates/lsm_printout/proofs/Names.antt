@@ -1,9 +1,9 @@
 -- "An array [0; 3072] holds a decoded name at its worst expansion, three bytes for each of 1,024": so every channel is found, and
 -- what the answer and the lent memory hold is the channel. Assumes nothing.
 use Prim.Native.Nat.{ℕ, zero, suc, ◌+◌, ◌≤◌, ◌<◌}
-use mathlib.Core.Path.{◌≡◌, refl, sym, ap, ◌∙◌}
+use mathlib.Core.Path.{◌≡◌, refl, ap, ◌∙◌}
 use mathlib.Core.Bool.{Bool, true, false}
-use Rattle.std.specs.Prelude.{Option, None, Some, Result as Answered, Ok, Err}
+use Rattle.std.specs.Prelude.{Option, None, Some}
 use mathlib.Core.List.{List}
 use native.Mathlib.Omega.{arith}
 use borrow.Author.Tests.{lt-ltb, leb-true}
@@ -13,18 +13,14 @@ use lib.ListN.{length, take, drop}
 use lib.Seq.{take_at}
 use Rattle.lsm_format.specs.Answer.{Result, accepted, refused, bind}
 use Rattle.lsm_format.specs.Numbers.{Order}
-use Rattle.lsm_format.specs.Code.{answer_by, row_of}
-use Rattle.lsm_format.specs.declared.error.Refusal.{Refusal}
 use Rattle.lsm_format.specs.Lent.{filled}
-use Rattle.lsm_format.specs.Channels.{Channel, kept, name_span, text_in, name, record_of, channel_by, pointers, channel_in, text_of, lookup, lookup_memory}
+use Rattle.lsm_format.specs.Channels.{kept, name_span, text_in, name, record_of, channel_by, pointers, channel_in, text_of, lookup, lookup_memory}
 use Rattle.lsm_format.proofs.Lent.{lend_room, filled_room}
 use Rattle.printout_room.proofs.Texts.{text_length}
-use Rattle.lsm_channel_colors.specs.Code.{Seen, meta_of, length_of, seen, Looked}
-use Rattle.lsm_channel_colors.specs.declared.ChannelMeta.{ChannelMeta}
-use Rattle.lsm_format.proofs.Apart.{no_case}
+use Rattle.lsm_channel_colors.specs.Code.{length_of, seen}
 use Rattle.std.proofs.lemmas.List.{take_min}
 use Rattle.lsm_printout.proofs.Puts.{after}
-use Rattle.lsm_printout.specs.Channel.{first_of, channel_of}
+use Rattle.lsm_printout.specs.Channel.{first_of}
 
 -- ---- a name
 
@@ -65,44 +61,25 @@ lookup_found o f block channels channel room h k =
     let l : length (text_of (channel_in o f block channel).name) ≤ room = omega (arith, channel_room o f block channel) in
     rw (lt-ltb channel channels h, lend_room (length (text_of (channel_in o f block channel).name)) room l)
 
-memory_found : (o : Order) (f : List ℕ) (block : Option ℕ) (channels channel : ℕ) (before : List ℕ) → channel < channels
+pub memory_found : (o : Order) (f : List ℕ) (block : Option ℕ) (channels channel : ℕ) (before : List ℕ) → channel < channels
     → lookup_memory o f block channels channel before ≡ filled (text_of (channel_in o f block channel).name) before
 unfolding lookup_memory
 memory_found o f block channels channel before h =
     ap (λ (t : Bool). elim t [ true ↦ filled (text_of (channel_in o f block channel).name) before | false ↦ before ]) (lt-ltb channel channels h)
 
 -- the first bytes of memory that holds a text at its front
-first_text : (t : Option (List ℕ)) (before after : List ℕ) → length (text_of t) ≤ length before → after ≡ filled (text_of t) before
-    → first_of (length_of t) after ≡ t
-first_text None before after h e = refl
-first_text (Some t) before after h e = ap Some (ap (take (length t)) (e ∙ filled_room t before h) ∙ take_at t (drop (length t) before) (length t) refl)
+pub first_text : (t : Option (List ℕ)) (before : List ℕ) → length (text_of t) ≤ length before → first_of (length_of t) (filled (text_of t) before) ≡ t
+first_text None before h = refl
+first_text (Some t) before h = ap Some (ap (take (length t)) (filled_room t before h) ∙ take_at t (drop (length t) before) (length t) refl)
 
--- what is seen of a channel
-abbrev seen_of : Channel → Seen
-seen_of c = record { color = c.color; name = length_of c.name }
+-- what is seen of a channel that is found
+pub seen_found : (o : Order) (f : List ℕ) (block : Option ℕ) (channels channel room : ℕ) → channel < channels → 3072 ≤ room
+    → seen (lookup o f block channels channel room)
+    ≡ accepted (record { color = (channel_in o f block channel).color; name = length_of (channel_in o f block channel).name })
+seen_found o f block channels channel room h k = ap seen (lookup_found o f block channels channel room h k)
 
-module _ {o : Order} {f : List ℕ} {block : Option ℕ} {channels channel : ℕ} {before after : List ℕ} where
-  answered : {s : Result Seen} → channel < channels → length before ≡ 3072 → Looked o f block channels channel before after s
-      → s ≡ accepted (seen_of (channel_in o f block channel))
-  answered h e l = l.answered ∙ ap seen (lookup_found o f block channels channel (length before) h (omega arith))
-
-  -- the file's channel is the answer's, its name taken from the memory
-  pub looked_found : {r : Answered ChannelMeta Refusal} {m : ChannelMeta} → Looked o f block channels channel before after (answer_by meta_of r) → r ≡ Ok m
-      → channel < channels → length before ≡ 3072 → channel_in o f block channel ≡ channel_of (meta_of m) after
-  looked_found {r} {m} l v h e =
-      let c = channel_in o f block channel in
-      let a : accepted (meta_of m) ≡ accepted (seen_of c) = rw v at (answered h e l) in
-      let q : meta_of m ≡ seen_of c = cc in
-      let n : first_of (length_of c.name) after ≡ c.name =
-      first_text c.name before after (omega (arith, channel_room o f block channel)) (l.memory ∙ memory_found o f block channels channel before h) in
-      sym (ap (λ (t : Seen). channel_of t after) q ∙ ap (λ (t : Option (List ℕ)). record { color = c.color; name = t }) n)
-
-  -- it is not refused
-  pub looked_refused : {r : Answered ChannelMeta Refusal} {e : Refusal} → Looked o f block channels channel before after (answer_by meta_of r) → r ≡ Err e
-      → channel < channels → length before ≡ 3072 → ⊥
-  looked_refused {r} {e} l v h k =
-      let a : refused (row_of e) ≡ accepted (seen_of (channel_in o f block channel)) = rw v at (answered h k l) in
-      no_case cc
+-- so every channel is found, and its name is at the front of the memory
+pub ruleset found = (seen_found, memory_found, first_text, channel_room)
 
 -- the front of a name
 pub ruleset named = (after, take_min)

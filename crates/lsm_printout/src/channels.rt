@@ -43,6 +43,7 @@ impl<const N: usize> Page<N> {
     }
 
     // The line of one channel. No name has more than 3,072 bytes, so that it is never refused.
+    #[tactic(auto, using(crate::proofs::Names::found), unfolding(lsm_format::specs::Printout::channel_line, lsm_format::specs::Printout::text))]
     fn channel(&mut self, buf: &[u8], d: Description, c: usize)
         requires { c < (description_of d).dims.c }
         ensures { self.new ≡ put N self.old (text (channel_line (channels_of buf.now (description_of d) c) ∷ [])) }

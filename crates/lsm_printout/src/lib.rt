@@ -47,7 +47,7 @@ impl<const N: usize> Page<N> {
     }
 
     // A file's printout.
-    #[tactic(auto, using(crate::proofs::Whole::printout_long))]
+    #[tactic(auto, using(crate::proofs::Whole::listed))]
     fn list(&mut self, buf: &[u8])
         ensures { self.new ≡ put N self.old (printout buf.now) }
     {

@@ -58,7 +58,9 @@ impl<const N: usize> Page<N> {
         ensures { self.new ≡ put N self.old (words.now ++ note_text z ++ 10 ∷ []) }
     {
         self.bytes(words);
-        self.bytes(&note_figure(z));
+        if let Some(figure) = note_figure(z) {
+            self.bytes(&figure);
+        }
         self.byte(b'\n');
     }
 

@@ -1,5 +1,5 @@
 -- What holds of a walk that goes on. Assumes nothing.
-use Prim.Native.Nat.{ℕ, ◌+◌, ◌-◌, ◌≤◌}
+use Prim.Native.Nat.{ℕ, ◌+◌, ◌-◌, ◌^◌, ◌≤◌, ◌<◌}
 use native.Mathlib.Omega.{arith}
 use mathlib.Core.Path.{◌≡◌, sym, ◌∙◌}
 use mathlib.Core.List.{List, ◌++◌, append_assoc}
@@ -52,6 +52,9 @@ laid_more ps d used r lent table after s l p =
 
 -- With the full pages so far, what is left of the chain is what the whole walk answers; and from the mark the chain comes here.
 pub record Going (o : Order) (f lent : List ℕ) (place mark : ℕ) (w : Walk) (used : ℕ) (table : List ℕ) : Type 0 where
+  pub near : place < 2 ^ 32
+  pub few : w.visited ≤ 1000000
+  pub fewer : w.pages ≤ w.visited
   pub pages : List Page
   pub counted : w.pages ≡ length pages
   pub goes : chain (1000000 - w.visited) (eqb place 0) o f place (walk_of o f pages w) ≡ Open.walk o f

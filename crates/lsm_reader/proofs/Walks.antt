@@ -5,11 +5,15 @@ use native.Mathlib.Omega.{arith}
 use mathlib.Core.Path.{◌≡◌, refl, sym, ap, ◌∙◌}
 use Rattle.std.specs.Prelude.{Option, None, Some, option_map}
 use Rattle.std.specs.Option.{option_or}
-use mathlib.Core.List.{List, [], ◌∷◌, ◌++◌}
+use mathlib.Core.Bool.{false}
+use mathlib.Core.List.{List, [], ◌∷◌, ◌++◌, append-nil}
 use lib.ListN.{length, get_or, take, set, length-append, length-set, take-append-drop}
 use borrow.Rule.Slice.PartMut.{put_mid, Post-is}
 use Rattle.lsm_format.specs.Numbers.{Order}
-use Rattle.lsm_format.specs.Open.{Page, earlier, strip_words}
+use Rattle.lsm_format.specs.Directory.{is_reduced}
+use Rattle.lsm_format.specs.Open.{Page, earlier, pages_of, strip_words, table_words}
+use Rattle.lsm_directory.specs.Code.{directory_of}
+use Rattle.lsm_directory.specs.declared.Directory.{Directory}
 use Rattle.lsm_format.proofs.Lists.{take_store, take_full}
 use Rattle.lsm_format.proofs.Open.{strip_words_length, strip_offset, strip_count}
 use Rattle.lsm_values.specs.declared.StripArray.{StripArray}
@@ -46,7 +50,8 @@ module _ (o : Order) (f : List ℕ) (offsets counts : StripArray) (e : counts.co
   words_long = rw (strip_words_length (values_of o f offsets) (values_of o f counts) equal, values_length)
 
   -- one strip more
-  pub strip_more : (l : List ℕ) (i v c : ℕ) → length l ≡ 2 * offsets.count → i < offsets.count → v ≡ get_or (values_of o f offsets) i 0 → c ≡ get_or (values_of o f counts) i 0 →
+  pub strip_more : (l : List ℕ) (i v c : ℕ) → length l ≡ 2 * offsets.count → i < offsets.count →
+      v ≡ get_or (values_of o f offsets) i 0 → c ≡ get_or (values_of o f counts) i 0 →
       take (2 * i) l ≡ take (2 * i) (strip_words (values_of o f offsets) (values_of o f counts)) →
       take (2 * (i + 1)) (set (set l (2 * i) v) (2 * i + 1) c) ≡ take (2 * (i + 1)) (strip_words (values_of o f offsets) (values_of o f counts))
   strip_more l i v c n h vs cs q =
@@ -56,6 +61,11 @@ module _ (o : Order) (f : List ℕ) (offsets counts : StripArray) (e : counts.co
   pub strips_all : (l : List ℕ) (i : ℕ) → length l ≡ 2 * offsets.count → offsets.count ≤ i →
       take (2 * i) l ≡ take (2 * i) (strip_words (values_of o f offsets) (values_of o f counts)) → l ≡ strip_words (values_of o f offsets) (values_of o f counts)
   strips_all l i n h q = take_full l (strip_words (values_of o f offsets) (values_of o f counts)) (2 * i) (n ∙ sym words_long) (rw words_long (omega arith)) q
+
+-- the words of a full page
+pub page_long : (o : Order) (f : List ℕ) (d : Directory) → is_reduced d.new_subfile_type ≡ false → d.offsets.count ≡ d.counts.count →
+    length (table_words (pages_of (directory_of o f d))) ≡ 2 * d.offsets.count
+page_long o f d r e = rw (r, append-nil) (words_long o f d.offsets d.counts (sym e))
 
 -- ---- a page laid into the table
 

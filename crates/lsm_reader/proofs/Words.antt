@@ -1,22 +1,24 @@
 -- How many words the strip table of a file takes: two for each strip of each full page, since all of them have as many strips as the
--- first. Assumes nothing.
-use Prim.Native.Nat.{ℕ, ◌-◌, ◌*◌, ◌^◌, ◌≤◌, ◌<◌, min}
+-- first; and what opening answers where the table lent is shorter. Assumes nothing.
+use Prim.Native.Nat.{ℕ, ◌-◌, ◌*◌, ◌^◌, ◌<◌, min}
 use native.Mathlib.Nat.{zero-mul, mul-zero}
-use native.Mathlib.Omega.{arith}
-use mathlib.Core.Path.{◌≡◌, ◌∙◌}
+use mathlib.Core.Path.{◌≡◌, sym, ◌∙◌}
 use mathlib.Core.List.{List}
 use lib.ListN.{length}
-use Rattle.lsm_format.specs.Answer.{accepted}
+use Rattle.lsm_format.specs.Answer.{accepted, bind}
 use Rattle.lsm_format.specs.Numbers.{Order}
-use Rattle.lsm_format.specs.Open.{Page, Walk, walk, table_words}
+use Rattle.lsm_format.specs.Open.{Page, Walk, walk, table_words, read, open_file, open_memory}
+use Rattle.lsm_format.specs.Open as Open
+use Rattle.lsm_format.specs.declared.error.Refusal.TheVariants.{TooShort}
+use Rattle.lsm_format.proofs.Lent.{lend_short, filled_short}
 use Rattle.lsm_format.proofs.Accepting.{accepting_told}
 use Rattle.lsm_format.proofs.Pages.{Even, walk_even}
 use Rattle.lsm_values.proofs.Laws.{values_length}
 use Rattle.lsm_reader.specs.Walked.{walk_of}
-use Rattle.std.specs.Prelude.{Option, None, Some, option_map}
+use Rattle.std.specs.Prelude.{Option, None, Some, option_map, Err}
 use Rattle.lsm_directory.specs.Code.{directory_of}
 use Rattle.lsm_directory.specs.declared.Directory.{Directory}
-use Rattle.lsm_reader.specs.Opening.{strips_of}
+use Rattle.lsm_reader.specs.Opening.{strips_of, OpenedAs}
 use Rattle.lsm_reader.specs.declared.chain.Walk.{Walk as Kept}
 
 -- the words of a walk, by its count of pages and the strips of its first page
@@ -31,9 +33,8 @@ pub walked_words : (o : Order) (f : List ℕ) (ps : List Page) (w : Kept) → wa
 walked_words o f ps w e m =
     by_first o f ps w.pages w.first (accepting_told (λ (v : Walk). Even v.first v.pages) _ _ (walk_even o f) e) m
 
--- a number of words, or the largest of 64 bits where it passes them
-pub said_small : (n k : ℕ) → k ≡ n → n < 2 ^ 64 → k ≡ min n (2 ^ 64 - 1)
-said_small n k e h = omega arith
-
-pub said_large : (n : ℕ) → 2 ^ 64 ≤ n → 0xffffffffffffffff ≡ min n (2 ^ 64 - 1)
-said_large n h = omega arith
+-- a table that is too short; the check of `open_file` finds it alone
+pub too_short_lem : (f lent : List ℕ) (x : Open.Opened) → read f ≡ accepted x → (n : ℕ) → n ≡ min (length x.table) (2 ^ 64 - 1) → length lent < length x.table
+    → OpenedAs f lent lent (Err (TooShort n))
+unfolding open_file open_memory bind
+too_short_lem f lent x e n is h = record { answered = rw (e, lend_short _ _ h, is); memory = rw e (sym (filled_short x.table lent h)) }

@@ -47,6 +47,6 @@ Table ps lent table (Err r) = Unit {0}
 -- where there is room for them all.
 pub record WalkedAs (o : Order) (f lent table : List ℕ) (r : Answered Walk Refusal) : Type 0 where
   pub pages : List Page
-  pub is : answer_by (walk_of o f pages) r ≡ Open.walk o f
   pub counted : Counted pages r
+  pub is : answer_by (walk_of o f pages) r ≡ Open.walk o f
   pub filled : Table pages lent table r

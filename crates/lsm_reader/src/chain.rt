@@ -1,5 +1,5 @@
 // The walk along the chain of directories, and the strips that it lays into the table.
-ghost use Rattle.std.specs.Prelude.{◌≡◌, List, [], ◌++◌, ℕ, ◌+◌, ◌*◌, ◌≤◌, ◌<◌, length};
+ghost use Rattle.std.specs.Prelude.{◌≡◌, List, [], ◌++◌, ℕ, ◌+◌, ◌*◌, ◌≤◌, ◌<◌, length, IfOk};
 ghost use Rattle.lsm_format.specs.Code.{order_of, answer_by};
 ghost use Rattle.lsm_format.specs.Numbers.{Order};
 ghost use Rattle.lsm_format.specs.Open.{Page, pages_of, strip_words, table_words};
@@ -9,9 +9,7 @@ ghost use Rattle.lsm_directory.specs.Code.{directory_of, ends_of};
 ghost use Rattle.lsm_reader.specs.Walked.{LaidPage, walk_of, visit_ends, marked, WalkedAs};
 
 use lsm_bytes::read_u32;
-use lsm_directory::{
-    Directory, Ends, agrees, directory_ends, is_reduced, plain_directory, put_value, read_entry,
-};
+use lsm_directory::{Directory, Ends, agrees, directory_ends, is_reduced, put_value, read_entry};
 use lsm_format::error::Refusal;
 use lsm_format::types::{CzTag, Endian};
 use lsm_values::{StripArray, strip_value};
@@ -25,20 +23,23 @@ pub struct Walk {
     pub cz: Option<CzTag>,
 }
 
-// The walk before its first directory.
-fn no_directory() -> Walk
-    ensures { (result.visited ≡ 0) × (result.pages ≡ 0) × ((o : Order) (f : List ℕ) → walk_of o f [] result ≡ Open.start) }
-{
-    Walk {
-        visited: 0,
-        pages: 0,
-        first: None,
-        cz: None,
+impl Default for Walk {
+    ghost is_default = { λ w. (w.visited ≡ 0) × (w.pages ≡ 0) × ((o : Order) (f : List ℕ) → walk_of o f [] w ≡ Open.start) };
+
+    // The walk before its first directory.
+    fn default() -> Walk {
+        Walk {
+            visited: 0,
+            pages: 0,
+            first: None,
+            cz: None,
+        }
     }
 }
 
 // A directory that agrees joins the walk. The first full page is kept, and the first directory that has a CZ entry wins: a reduced page
 // supplies at most that.
+#[tactic(auto, using(crate::proofs::Walks::one_more, crate::proofs::Walks::kept_or, lsm_format::proofs::Open::stays))]
 fn join(w: Walk, d: Directory) -> Walk
     requires { (w.visited < 1000000) × (w.pages ≤ w.visited) }
     ensures joined { (o : Order) (f : List ℕ) (ps : List Page) → walk_of o f (ps ++ pages_of (directory_of o f d)) result ≡ Open.joined (walk_of o f ps w) (directory_of o f d) }
@@ -49,9 +50,8 @@ fn join(w: Walk, d: Directory) -> Walk
     if is_reduced(d.new_subfile_type) {
         return Walk {
             visited: w.visited + 1,
-            pages: w.pages,
-            first: w.first,
             cz, // the entry of a reduced page counts
+            ..w
         };
     }
     Walk {
@@ -68,7 +68,8 @@ const MAX_IFDS: usize = 1_000_000;
 // The ends of the directory at a place, where one more may be visited.
 #[tactic(auto, unfolding(crate::specs::Walked::visit_ends, lsm_format::specs::Answer::bind))]
 fn visit(buf: &[u8], place: usize, visited: usize, e: Endian) -> Result<Ends, Refusal>
-    ensures { answer_by ends_of result ≡ visit_ends (order_of e) buf.now place visited }
+    ensures ends { answer_by ends_of result ≡ visit_ends (order_of e) buf.now place visited }
+    ensures below { IfOk result (λ _. visited < 1000000) }
 {
     if MAX_IFDS <= visited {
         return Err(Refusal::Parse);
@@ -98,7 +99,9 @@ fn move_mark(m: Mark, visited: usize, place: usize) -> Mark
     }
 }
 
-// The words of a page's strips: strip by strip, offset then count.
+// The words of a page's strips: strip by strip, offset then count. They are stored by their places: std says nothing of what a slice that was
+// cut into chunks (`as_chunks_mut`) ends as.
+#[tactic(auto, using(crate::proofs::Walks::strip_more, crate::proofs::Walks::strips_all))]
 fn fill_strips(buf: &[u8], offsets: StripArray, counts: StripArray, e: Endian, out: &mut [usize])
     requires { (length out.old ≡ 2 * offsets.count) × (counts.count ≡ offsets.count) }
     ensures { out.new ≡ strip_words (values_of (order_of e) buf.now offsets) (values_of (order_of e) buf.now counts) }
@@ -110,6 +113,7 @@ fn fill_strips(buf: &[u8], offsets: StripArray, counts: StripArray, e: Endian, o
 }
 
 // Lays a full page's strips into the table from word `used` on, if there is room for them; answers how many words are used then.
+#[tactic(auto, using(crate::proofs::Walks::words_long, crate::proofs::Walks::page_long, crate::proofs::Walks::laid_nothing, crate::proofs::Walks::laid_short, crate::proofs::Walks::laid_there))]
 fn lay_page(buf: &[u8], d: Directory, e: Endian, used: usize, table: &mut [usize]) -> usize
     requires { (used ≤ length table.old) × (d.offsets.count ≡ d.counts.count) }
     ensures { LaidPage (table_words (pages_of (directory_of (order_of e) buf.now d))) used table.old table.new result }
@@ -126,35 +130,30 @@ fn lay_page(buf: &[u8], d: Directory, e: Endian, used: usize, table: &mut [usize
 }
 
 // Walks the chain and judges every directory on it; it is left at the first refusal, from inside an entry too. A labelled loop in a labelled
-// loop is the form that the project asks for here. A chain in a circle never
-// ends, and would be refused after 1,000,000 visits: it is refused when the walk comes back to the mark. The strips of the full pages are
-// laid into the table as far as there is room, so a table of no words is left as it is.
+// loop is the form that the project asks for here. A chain in a circle never ends, and would be refused after 1,000,000 visits: it is refused
+// when the walk comes back to the mark. The strips of the full pages are laid into the table as far as there is room, so a table of no words
+// is left as it is.
+#[tactic(auto, unfolding(lsm_format::specs::Answer::bind, lsm_format::specs::Open::walk), using(crate::proofs::Turns::chain_visits, crate::proofs::Turns::refused_as, lsm_format::proofs::Open::chain_end, crate::proofs::Turns::equal_counts, crate::proofs::Entries::entries_over, crate::proofs::Entries::entries_more))]
 pub(crate) fn walk_chain(buf: &[u8], e: Endian, table: &mut [usize]) -> Result<Walk, Refusal>
     ensures { WalkedAs (order_of e) buf.now table.old table.new result }
 {
     let mut place = read_u32(buf, 4, e)? as usize;
     let mut mark = Mark { place, until: 1 };
-    let mut w = no_directory();
+    let mut w = Walk::default();
     let mut used: usize = 0;
     'dirs: loop {
         if place == 0 {
             break 'dirs Ok(w);
         }
-        let ends = match visit(buf, place, w.visited, e) {
-            Ok(ends) => ends,
-            Err(r) => break 'dirs Err(r),
-        };
-        let mut d = plain_directory();
+        let ends = visit(buf, place, w.visited, e)?;
+        let mut d = Directory::default();
         'entries: for i in 0..ends.entries {
             match read_entry(buf, place + 2 + 12 * i, e) {
                 Ok(v) => d = put_value(d, v),
                 Err(r) => break 'dirs Err(r),
             }
         }
-        match agrees(w.first, d) {
-            Ok(()) => {}
-            Err(r) => break 'dirs Err(r),
-        }
+        agrees(w.first, d)?;
         w = join(w, d);
         used = lay_page(buf, d, e, used, table);
         if ends.next == mark.place {

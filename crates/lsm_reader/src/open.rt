@@ -15,13 +15,16 @@ use lsm_format::error::Refusal;
 use lsm_format::guard::MAX_MMAP_BYTES;
 use lsm_format::types::Endian;
 
+// The Compression of strips that hold the samples as they are.
+const UNCOMPRESSED: u32 = 1;
+
 // The description of a file whose directories are walked.
 #[tactic(auto, unfolding(lsm_format::specs::Open::describe_walk, lsm_format::specs::Answer::bind))]
 fn describe_walk(buf: &[u8], e: Endian, w: Walk) -> Result<Description, Refusal>
     ensures { (ps : List Page) → w.pages ≡ length ps → answer_by description_of result ≡ Open.describe_walk (order_of e) buf.now (walk_of (order_of e) buf.now ps w) }
 {
     let page = w.first.ok_or(Refusal::Decode)?;
-    if page.compression != 1 {
+    if page.compression != UNCOMPRESSED {
         return Err(Refusal::Unsupported);
     }
     let dtype = map_dtype(page.sample_format, page.bits)?;
@@ -49,6 +52,7 @@ pub struct Opened {
 
 // Opens a file and writes its strips into the table. Nothing is written before every check has passed, the table's length last: the
 // directories are judged with no room lent, and walked again with all of it.
+#[tactic(auto, unfolding(lsm_format::specs::Open::open_file, lsm_format::specs::Open::open_memory, lsm_format::specs::Open::read, lsm_format::specs::Answer::bind), using(crate::proofs::Words::walked_words, lsm_format::proofs::Lent::lend_room, lsm_format::proofs::Lent::lend_short, lsm_format::proofs::Lent::filled_room, lsm_format::proofs::Lent::filled_short))]
 pub fn open_file(buf: &[u8], table: &mut [usize]) -> Result<Opened, Refusal>
     ensures { OpenedAs buf.now table.old table.new result }
 {

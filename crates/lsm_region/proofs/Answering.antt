@@ -5,14 +5,18 @@ use native.Mathlib.Omega.{arith}
 use Rattle.std.proofs.Math.Nat.{mul-div_cancel}
 use mathlib.Core.Path.{◌≡◌, refl, sym, ap, subst, ◌∙◌}
 use mathlib.Core.Bool.{true}
+use mathlib.Core.Logic.{◌⊎◌, ⊎_elim}
 use mathlib.Core.List.{List, [], ◌∷◌, ◌++◌, reverse}
 use lib.ListN.{length, get_or, drop}
-use Rattle.lsm_format.specs.Answer.{Result, accepted, refused, bind, too_short}
+use Rattle.lsm_format.specs.Answer.{accepted, refused, bind, too_short}
 use Rattle.lsm_format.specs.Numbers.{Order, little, big}
+use Rattle.lsm_format.specs.Code.{kind_of}
+use Rattle.lsm_format.specs.declared.types.DType.{DType}
+use Rattle.lsm_format.specs.declared.types.DType.TheVariants.{U8, U16, I16, F32}
 use Rattle.lsm_format.specs.Open.{Description}
 use Rattle.lsm_format.specs.Rectangle.{Rect, Coordinate, is_empty}
 use Rattle.lsm_format.specs.Sizes.{sample_size, picture_bytes}
-use Rattle.lsm_format.specs.Picture.{Strips, Samples, stored, inside, span, bytes, picture, each_sample, to_little, window, channel_picture, samples_in, row_bytes, into, whole_picture, plane_from, plane, no_strips, region_from, region}
+use Rattle.lsm_format.specs.Picture.{Strips, Samples, stored, inside, span, bytes, picture, each_sample, to_little, window, channel_picture, samples_in, row_bytes, into, whole_picture, plane_from, no_strips, region_from}
 use Rattle.lsm_format.proofs.Lent.{lend_room, lend_short, filled_room, filled_short}
 use Rattle.lsm_format.proofs.Picture.{held, span_cong, bytes_cong, picture_length_lem, window_rows, window_cong, window_each, plane_accepted, coordinate_channel, rectangle_within, channel_room}
 use Rattle.lsm_format.proofs.Region.{size_rows, size_samples, end_inside, region_accepted, empty_then, not_empty, samples_length, plane_from_then, region_from_then}
@@ -20,7 +24,6 @@ use Rattle.lsm_region.specs.Code.{Pictured}
 use Rattle.lsm_region.specs.Ready.{Ready}
 use Rattle.lsm_strips.specs.Strips.{strips_at}
 use Rattle.lsm_strips.proofs.Pairs.{place_at, inside_at, total_at}
-use Rattle.lsm_region.specs.declared.copier.Rows.{Rows}
 use Rattle.lsm_region.specs.Rows.{stored_in, rows_of, RowsIn}
 use Rattle.lsm_region.proofs.Filling.{flip_one}
 
@@ -37,22 +40,21 @@ positive a b h = (pos_left a b h, pos_left b a (rw (mul_comm b a) h))
     pos_left a b h = lt_of_not-le (λ l. (let z : a ≡ 0 = omega arith in let e : a * b ≡ 0 = ap (λ (k : ℕ). k * b) z ∙ zero-mul b in omega arith))
 
 -- the rows of a rectangle that has samples
-abbrev pub part_of : Description → Rect → Rows
-part_of d r = record { row = row_bytes d; y = r.y; h = r.h; start = r.x * sample_size d.kind; part = r.w * sample_size d.kind }
-
-pub ready_rows : {d : Description} {t : List ℕ} {len : ℕ} {s : Strips} {r : Rect} → Ready d t len s r → 0 < picture_bytes r.w r.h d.kind
-    → RowsIn len (strips_at t s.first s.count) (part_of d r)
-ready_rows {d} {t} {len} {s} {r} y h =
+pub ready_rows : {d : Description} {t : List ℕ} {len : ℕ} {s : Strips} {r : Rect} {strips : List (List ℕ)} {size : ℕ}
+    → Ready d t len s r → 0 < picture_bytes r.w r.h d.kind → size ≡ sample_size d.kind → strips ≡ strips_at t s.first s.count
+    → RowsIn len strips (record { row = d.dims.x * size; y = r.y; h = r.h; start = r.x * size; part = r.w * size })
+ready_rows {d} {t} {len} {s} {r} y h z these =
     let b : ℕ = sample_size d.kind in
     let p = positive (r.w * r.h) b h in
     let q = positive r.w r.h p.0 in
     let part : 1 * 1 ≤ r.w * b = mul-le-mul q.0 p.1 in
-    record {
+    rw (z, these)
+    (record {
       some = omega arith;
       across = rw (← add-mul) (mul-le-mul_right b y.across);
       held = rw (total_at, ← add-mul) (y.held q.0 q.1);
       within = rw inside_at y.within;
-    }
+    })
 
 -- ---- the samples, in either order
 
@@ -60,11 +62,14 @@ one_byte : (o : Order) (sample : List ℕ) → length sample ≡ 1 → sample �
 one_byte little sample e = refl
 one_byte big sample e = flip_one sample e
 
-module _ (d : Description) (t f : List ℕ) (s : Strips) (r : Rect) (l : List ℕ) (e : l ≡ rows_of f (strips_at t s.first s.count) (part_of d r)) where
+-- what `gather` leaves of these strips, with samples of this size
+module _ (d : Description) (t f : List ℕ) (s : Strips) (r : Rect) (l : List ℕ) (strips : List (List ℕ)) (size : ℕ)
+    (left : l ≡ rows_of f strips (record { row = d.dims.x * size; y = r.y; h = r.h; start = r.x * size; part = r.w * size }))
+    (z : size ≡ sample_size d.kind) (these : strips ≡ strips_at t s.first s.count) where
   gathered : l ≡ window (picture (stored f t s.first s.count) d.dims.x (sample_size d.kind)) r
   unfolding stored
   gathered =
-      e
+      (rw (z, these) at left)
       ∙ span_cong r.y r.h (λ i. bytes (stored_in f (strips_at t s.first s.count)) (i * row_bytes d + r.x * sample_size d.kind) (r.w * sample_size d.kind))
       (λ i. bytes (stored f t s.first s.count) (i * row_bytes d + r.x * sample_size d.kind) (r.w * sample_size d.kind))
       (λ i lo hi.
@@ -84,20 +89,26 @@ module _ (d : Description) (t f : List ℕ) (s : Strips) (r : Rect) (l : List �
       ∙ window_cong (picture (stored f t s.first s.count) d.dims.x (sample_size d.kind)) _ r
       (λ i j li ui lj uj. one_byte d.order _ (picture_length_lem _ d.dims.x (sample_size d.kind) i j ∙ o))
 
-  pub from_big : (out : List ℕ) (n : ℕ) → d.order ≡ big → sample_size d.kind ≡ n → 0 < n → length l ≡ picture_bytes r.w r.h d.kind
+  pub from_big : length l ≡ picture_bytes r.w r.h d.kind → d.order ≡ big → (out : List ℕ) (n : ℕ) → 0 < n → sample_size d.kind ≡ n
       → out ≡ span 0 (length l / n) (λ q. reverse (bytes (held l) (q * n) n)) → out ≡ window (channel_picture d t f s) r
   unfolding channel_picture
-  from_big out n o k p z turned =
-      let many : length l / n ≡ r.h * r.w = rw (z, k, size_samples) (mul-div_cancel (r.h * r.w) p) in
+  from_big len o out n p k turned =
+      let many : length l / n ≡ r.h * r.w = rw (len, k, size_samples) (mul-div_cancel (r.h * r.w) p) in
       rw o
       (turned ∙ rw (many, ← k) (ap (λ (g : List ℕ). span 0 (r.h * r.w) (λ q. reverse (bytes (held g) (q * sample_size d.kind) (sample_size d.kind)))) gathered)
       ∙ window_each reverse _ (sample_size d.kind) r (λ i j li ui lj uj. picture_length_lem _ d.dims.x (sample_size d.kind) i j))
 
--- ---- the sample buffer
+-- what the match of a kind tells of its samples
+pub one_of : {k : DType} → k ≡ U8 → sample_size (kind_of k) ≡ 1
+one_of e = ap (λ k. sample_size (kind_of k)) e
 
-pub pictured_refused : (s : Result Samples) (row lent : List ℕ) (answer : Result (ℕ × ℕ × ℕ)) → s ≡ refused row → answer ≡ refused row → Pictured s lent lent answer
-unfolding into bind
-pictured_refused s row lent answer e h = record { answered = rw (h, e); memory = rw e }
+pub two_of : {k : DType} → (k ≡ U16) ⊎ (k ≡ I16) → sample_size (kind_of k) ≡ 2
+two_of e = ⊎_elim (λ e. ap (λ k. sample_size (kind_of k)) e) (λ e. ap (λ k. sample_size (kind_of k)) e) e
+
+pub four_of : {k : DType} → k ≡ F32 → sample_size (kind_of k) ≡ 4
+four_of e = ap (λ k. sample_size (kind_of k)) e
+
+-- ---- the sample buffer
 
 pub pictured_short : (a : Samples) (lent : List ℕ) (size : ℕ) → length a.bytes ≡ size → size < 2 ^ 64 → length lent < size
     → Pictured (accepted a) lent lent (refused (too_short size))
@@ -140,36 +151,12 @@ module _ (d : Description) (t f : List ℕ) (s : Strips) (r : Rect) (lent : List
       let p = given_read [] (omega arith) (sym (no_bytes (window (channel_picture d t f s) r) (sized ∙ z))) in
       subst (λ (k : ℕ). Pictured (accepted (samples_in d t f r s)) lent (drop k lent) (accepted (r.h, r.w, r.w * r.h * n))) z p
 
-pub pictured_as : {s s' : Result Samples} {before after : List ℕ} {answer : Result (ℕ × ℕ × ℕ)} → s ≡ s'
-    → Pictured s' before after answer → Pictured s before after answer
-pictured_as e p = rw e p
-
--- ---- plane and region: the checks, then the samples
-
-module _ (d : Description) (t f : List ℕ) (co : Coordinate) where
-  pub plane_unfit : (row : List ℕ) → plane_from d t (length f) co ≡ refused row → plane d t f co ≡ refused row
-  unfolding plane bind
-  plane_unfit row e = rw e
-
-  pub plane_fit : (s : Strips) → plane_from d t (length f) co ≡ accepted s → plane d t f co ≡ accepted (samples_in d t f (whole_picture d) s)
-  unfolding plane bind
-  plane_fit s e = rw e
-
-  module _ (r : Rect) where
-    pub region_unfit : (row : List ℕ) → region_from d t (length f) co r ≡ refused row → region d t f co r ≡ refused row
-    unfolding region bind
-    region_unfit row e = rw e
-
-    pub region_fit : (s : Strips) → region_from d t (length f) co r ≡ accepted s → region d t f co r ≡ accepted (samples_in d t f r s)
-    unfolding region bind
-    region_fit s e = rw e
-
 -- ---- what the checks accept can be copied
 
 module _ (d : Description) (t : List ℕ) (len : ℕ) (co : Coordinate) (s : Strips) where
-  pub ready_whole : plane_from d t len co ≡ accepted s → Ready d t len s (whole_picture d)
+  pub ready_whole : accepted s ≡ plane_from d t len co → Ready d t len s (whole_picture d)
   ready_whole e =
-      plane_from_then d t len co s e
+      plane_from_then d t len co s (sym e)
       (λ u e₁ e₂.
       let p = plane_accepted d t len co s e₂ in
       let made : picture_bytes d.dims.x d.dims.y d.kind ≡ d.dims.y * row_bytes d = size_rows d.dims.x d.dims.y (sample_size d.kind) in
@@ -202,9 +189,9 @@ module _ (d : Description) (t : List ℕ) (len : ℕ) (co : Coordinate) (s : Str
         within = refl;
       }
 
-  pub ready_part : (r : Rect) → region_from d t len co r ≡ accepted s → Ready d t len s r
+  pub ready_part : (r : Rect) → accepted s ≡ region_from d t len co r → Ready d t len s r
   ready_part r e =
-      region_from_then d t len co r s e
+      region_from_then d t len co r s (sym e)
       (λ u v e₁ e₂ i q. subst (λ (k : Strips). Ready d t len k r) q (ready_empty r (rectangle_within d.dims r v e₂).0 i))
       (λ u v e₁ e₂ i h.
       let w = rectangle_within d.dims r v e₂ in

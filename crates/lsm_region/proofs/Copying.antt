@@ -15,6 +15,7 @@ use Rattle.lsm_format.specs.Picture.{span, bytes}
 use Rattle.lsm_format.proofs.Accepting.{both_hold}
 use Rattle.lsm_format.proofs.Picture.{held, span_cong, bytes_add, bytes_moved, bytes_length, bytes_run, tile}
 use Rattle.lsm_strips.specs.Strips.{offset_in, count_in, total_in, place_in, all_lie, Stands}
+use Rattle.lsm_strips.proofs.Walking.{stands_next}
 use Rattle.lsm_region.specs.declared.copier.Rows.{Rows}
 use Rattle.lsm_region.specs.Rows.{stored_in, RowsIn}
 
@@ -40,18 +41,18 @@ module _ {all : List (List ℕ)} {k : ℕ} (f : List ℕ) (ss : List (List ℕ))
 
 -- m bytes more are copied
 pub run_step : {all : List (List ℕ)} (f : List ℕ) (ss : List (List ℕ)) (i d m k a : ℕ) (out ys : List ℕ) → Stands all (k + a) (drop i ss) d → i < length ss
-    → offset_in (get_or ss i []) + count_in (get_or ss i []) ≤ length f → d + m ≤ count_in (get_or ss i []) → a + m ≤ length out
+    → all_lie (length f) all ≡ true → d + m ≤ count_in (get_or ss i []) → a + m ≤ length out
     → ys ≡ take (offset_in (get_or ss i []) + d + m - (offset_in (get_or ss i []) + d)) (drop (offset_in (get_or ss i []) + d) f)
     → take a out ≡ bytes (stored_in f all) k a → take (a + m) (put_mid a (a + m - a) out ys) ≡ bytes (stored_in f all) k (a + m)
 run_step {all} f ss i d m k a out ys st h within fits room copied so_far =
-    let r : bytes (stored_in f all) (k + a) m ≡ ys = run_here f ss i d m st h within fits ∙ sym (rw add-sub_cancel_left at copied) in
+    let lies = lies_here (length f) ss i (st.within (length f) within) h in
+    let r : bytes (stored_in f all) (k + a) m ≡ ys = run_here f ss i d m st h lies fits ∙ sym (rw add-sub_cancel_left at copied) in
     let z : length ys ≡ m = ap length (sym r) ∙ bytes_length _ (k + a) m in
     rw (take-put_mid a (a + m - a) out ys (a + m) (omega arith) (omega arith), so_far, bytes_add, r)
 
-pub run_done : (g : ℕ → ℕ) (k : ℕ) (out : List ℕ) (a n : ℕ) → length out ≤ a → a ≤ n → length out ≡ n → take a out ≡ bytes g k a → out ≡ bytes g k n
-run_done g k out a n u l e so_far =
-    let q : a ≡ n = omega arith in
-    sym (take_all a out u) ∙ so_far ∙ ap (bytes g k) q
+pub run_done : (g : ℕ → ℕ) (k : ℕ) {out : List ℕ} {a n : ℕ} → take a out ≡ bytes g k a → a ≡ n → length out ≡ n → out ≡ bytes g k n
+run_done g k {out} {a} {n} so_far q e =
+    sym (take_all a out (omega arith)) ∙ so_far ∙ ap (bytes g k) q
 
 -- ---- where the walk stands
 
@@ -71,6 +72,12 @@ stands_on {a} {b} {k} {d} n s = record {
 
 pub stands_as : {a b : List (List ℕ)} {k k' d d' : ℕ} → k ≡ k' → d ≡ d' → Stands a k b d → Stands a k' b d'
 stands_as p q s = rw (sym p, sym q) s
+
+-- the strips after one that is copied to its end
+pub stands_past : {all : List (List ℕ)} (ss : List (List ℕ)) {i d : ℕ} (m k a : ℕ) → Stands all (k + a) (drop i ss) d → i < length ss → d + m ≡ count_in (get_or ss i [])
+    → Stands all (k + (a + m)) (drop (i + 1) ss) 0
+stands_past ss {i} {d} m k a st h e =
+    stands_next ss i 0 (stands_as (add_assoc k a m) (sym (add-zero (d + m))) (stands_on m st)) h (omega arith)
 
 -- bytes that are left from there on
 pub stands_left : {a b : List (List ℕ)} {k d : ℕ} (n : ℕ) → Stands a k b d → k + n ≤ total_in a → d + n ≤ total_in b

@@ -4,13 +4,22 @@ use native.Mathlib.Nat.{suc-mul, mul-le-mul_right, add-sub_cancel_left, zero-add
 use native.Mathlib.Numerals.{add-one}
 use native.Mathlib.Omega.{arith}
 use mathlib.Core.Path.{◌≡◌, refl, sym, ap, ◌∙◌}
+use mathlib.Core.Logic.{◌⊎◌, inl, inr}
 use mathlib.Core.List.{List, [], ◌∷◌, reverse}
 use borrow.Rule.Slice.PartMut.{put_mid, drop_put}
 use Rattle.std.proofs.lemmas.Slice.{take-put_mid}
 use lib.ListN.{length, take, drop, length-drop, length-reverse}
 use lib.Seq.{take_all, length-take-le, drop-drop}
+use Rattle.lsm_format.specs.Sizes.{Kind, u8, u16, i16, f32, sample_size}
 use Rattle.lsm_format.specs.Picture.{span, bytes}
 use Rattle.lsm_format.proofs.Picture.{held, span_snoc, bytes_length, bytes_run}
+
+-- a sample has one, two or four bytes; the check finds alone what it needs of this
+pub sample_size_lem : (k : Kind) → (sample_size k ≡ 1) ⊎ ((sample_size k ≡ 2) ⊎ (sample_size k ≡ 4))
+sample_size_lem u8 = inl refl
+sample_size_lem u16 = inr (inl refl)
+sample_size_lem i16 = inr (inl refl)
+sample_size_lem f32 = inr (inr refl)
 
 -- ---- a part from a on took m bytes
 

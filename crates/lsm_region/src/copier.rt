@@ -1,11 +1,12 @@
-// The bytes of a channel's strips, copied.
-ghost use Rattle.std.specs.Prelude.{◌≡◌, true, reverse, ◌+◌, ◌*◌, ◌/◌, ◌≤◌, ◌<◌, length, get_or};
+// The bytes of a channel's strips, copied. The parts of what is written are found by their places: once a loop over `chunks_exact_mut`,
+// `as_chunks_mut` or a `zip`, or one that splits what is left, has lent them, a proof knows no more of the slice than its length.
+ghost use Rattle.std.specs.Prelude.{◌≡◌, true, reverse, [], ◌+◌, ◌*◌, ◌/◌, ◌≤◌, ◌<◌, length, get_or};
 ghost use Rattle.lsm_format.specs.Picture.{span, bytes, window, channel_picture};
 ghost use Rattle.lsm_format.specs.Code.{rect_of};
 ghost use Rattle.lsm_format.specs.Sizes.{picture_bytes};
 ghost use Rattle.lsm_description.specs.Code.{description_of};
 ghost use Rattle.lsm_strips.specs.Parts.{strips_of};
-ghost use Rattle.lsm_strips.specs.Strips.{total_in, all_lie};
+ghost use Rattle.lsm_strips.specs.Strips.{count_in, total_in, all_lie};
 ghost use Rattle.lsm_region.specs.Rows.{stored_in, rows_of, RowsIn};
 ghost use Rattle.lsm_region.specs.Ready.{Ready};
 
@@ -24,22 +25,32 @@ struct Rows {
     part: usize,
 }
 
-// Fills out with the joined strips' bytes from the cursor on.
+// Copies the bytes of one slice into another. The compiler makes wide moves of the loop, which copy faster than `copy_from_slice`, a call
+// of C's memcpy.
+#[tactic(auto, using(lsm_format::proofs::Lists::take_store, lsm_format::proofs::Lists::take_full))]
+fn copy_bytes(from: &[u8], to: &mut [u8])
+    requires { length to.old ≡ length from.now }
+    ensures { to.new ≡ from.now }
+{
+    for (i, byte) in to.iter_mut().enumerate() {
+        *byte = from[i];
+    }
+}
+
+// Fills out with the joined strips' bytes from the cursor on. The cursor stands in the first of its strips; those behind it are copied from
+// their start on.
 fn copy_run(file: &[u8], cur: Cursor, out: &mut [u8])
     requires held { cur.into + length out.old ≤ total_in cur.strips.now }
+    requires first { cur.into < count_in (get_or cur.strips.now 0 []) }
     requires within { all_lie (length file.now) cur.strips.now ≡ true }
     ensures { out.new ≡ bytes (stored_in file.now cur.entry.strips.now) cur.entry.into (length out.old) }
 {
     let mut into = cur.into;
     let mut at = 0;
     for &[offset, count] in cur.strips {
-        if count <= into {
-            into -= count;
-            continue;
-        }
         let m = (count - into).min(out.len() - at);
         let from = offset + into;
-        out[at..at + m].copy_from_slice(&file[from..from + m]);
+        copy_bytes(&file[from..from + m], &mut out[at..at + m]);
         at += m;
         if at == out.len() {
             return;
@@ -120,7 +131,7 @@ pub(crate) fn fill(
         start: rect.x * size,
         part: rect.w * size,
     };
-    gather(file, run.of(table), rows, out);
+    gather(file, run.of(table).unwrap(), rows, out);
     if let Endian::Big = d.endian {
         match d.dtype {
             DType::U8 => {} // one byte has no order

@@ -56,6 +56,7 @@ fn deliver(
 
 // A whole picture. Its samples are written to `out`, little-endian, row by row. File, description and table may come from different places, so
 // each is an argument of its own.
+#[tactic(auto, unfolding(lsm_format::specs::Picture::plane, lsm_format::specs::Picture::into, lsm_format::specs::Answer::bind))]
 pub fn plane(
     buf: &[u8],
     d: Description,
@@ -77,6 +78,7 @@ pub fn plane(
 
 // A rectangle of a picture, which may be one that is too large to be read whole. Its samples are written to `out`, little-endian, row
 // by row.
+#[tactic(auto, unfolding(lsm_format::specs::Picture::region, lsm_format::specs::Picture::into, lsm_format::specs::Answer::bind))]
 pub fn region(
     buf: &[u8],
     d: Description,

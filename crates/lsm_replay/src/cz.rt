@@ -7,13 +7,13 @@ use crate::voxels::calibrated;
 use lsm_cz_info::{CzInfo, parse};
 use lsm_format::types::CzTag;
 
-// Whether the block's contents are what is said: 0, the dimensions, the channel block's place or 2^32, and the calibration.
+// What a line says where a block leads to no channel block: the recorder wrote a number past every i32.
+const NO_PLACE: usize = 0x1_0000_0000;
+
+// Whether the block's contents are what is said: 0, the dimensions, positions and tiles, the channel block's place, and the calibration.
 fn info(said: &[usize], i: CzInfo) -> bool
     ensures { result ≡ true → 10 ≤ length said.now }
 {
-    let Some((front, size)) = said.split_at_checked(9) else {
-        return false;
-    };
     let numbers = [
         0,
         i.dim_x as usize,
@@ -23,9 +23,10 @@ fn info(said: &[usize], i: CzInfo) -> bool
         i.dim_time as usize,
         bits_of(i.dim_p),
         bits_of(i.dim_m),
-        i.channel_colors_offset.unwrap_or(0x1_0000_0000),
+        i.channel_colors_offset.unwrap_or(NO_PLACE),
     ];
-    front == numbers.as_slice() && calibrated(size, i.calibration)
+    said.strip_prefix(numbers.as_slice())
+        .is_some_and(|size| calibrated(size, i.calibration))
 }
 
 // The order, the block's place and its declared bytes, and what reading it in a file answers.

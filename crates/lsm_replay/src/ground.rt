@@ -4,10 +4,12 @@ ghost use Rattle.std.specs.Prelude.{◌≡◌, true, ◌+◌, ◌-◌, ◌≤◌
 use crate::answer::{refused, told};
 use lsm_bytes::{read_f64_bits, read_i32, read_u8, read_u16, read_u32};
 use lsm_format::error::Refusal;
-use lsm_format::types::{Coordinate, DType, Dims5, Endian, PixelRect, checked_region};
+use lsm_format::types::{Coordinate, DType, Dims5, Endian, checked_region};
 use lsm_positions::LsmLayout;
+use vectors::asked::{coordinate, rectangle};
 
-// A line's numbers stand for these, as the recorder wrote them; no number is refused, so there is no `TryFrom`.
+// A line's numbers stand for these, as the recorder wrote them. No number is refused, so there is no `TryFrom`; and a `From` would have to stand with
+// the types, which know nothing of the lists.
 
 pub fn order(n: usize) -> Endian
     ensures { (n ≡ 0 → result ≡ Endian.Little) × (0 < n → result ≡ Endian.Big) }
@@ -87,9 +89,7 @@ pub fn size(numbers: &[usize]) -> bool
 fn dims(numbers: &[usize]) -> Option<(Dims5, &[usize])>
     ensures { IfSome result (λ r. length numbers.now ≡ 5 + length r.1.now) }
 {
-    let [t, c, z, y, x, rest @ ..] = numbers else {
-        return None;
-    };
+    let ([t, c, z, y, x], rest) = numbers.split_first_chunk::<5>()?;
     let dims = Dims5 {
         t: *t,
         c: *c,
@@ -107,16 +107,13 @@ pub fn region(numbers: &[usize]) -> bool
     let Some((dims, rest)) = dims(numbers) else {
         return false;
     };
-    let [scene, t, c, z, x, y, w, h, said @ ..] = rest else {
+    let Some((co, rest)) = coordinate(rest) else {
         return false;
     };
-    let co = Coordinate {
-        scene: *scene,
-        t: *t,
-        c: *c,
-        z: *z,
+    let Some((rect, said)) = rectangle(rest) else {
+        return false;
     };
-    match checked_region(dims, co, PixelRect::new(*x, *y, *w, *h)) {
+    match checked_region(dims, co, rect) {
         Ok(()) => said == [0].as_slice(),
         Err(r) => refused(said, r),
     }
@@ -126,45 +123,53 @@ pub fn region(numbers: &[usize]) -> bool
 pub fn empty(numbers: &[usize]) -> bool
     ensures { result ≡ true → 4 ≤ length numbers.now }
 {
-    let [x, y, w, h, said @ ..] = numbers else {
+    let Some((rect, said)) = rectangle(numbers) else {
         return false;
     };
-    let empty = PixelRect::new(*x, *y, *w, *h).is_empty();
-    told(said, Ok(usize::from(empty)))
+    told(said, Ok(usize::from(rect.is_empty())))
 }
 
-fn layout(p: usize, m: usize, t: usize, z: usize) -> Result<LsmLayout, Refusal> {
-    LsmLayout::new(signed(p), signed(m), t, z)
+// The layout that numbers begin with, or why there is none, and the numbers behind them.
+fn layout(numbers: &[usize]) -> Option<(Result<LsmLayout, Refusal>, &[usize])>
+    ensures { IfSome result (λ r. length numbers.now ≡ 4 + length r.1.now) }
+{
+    let ([p, m, t, z], rest) = numbers.split_first_chunk::<4>()?;
+    Some((LsmLayout::new(signed(*p), signed(*m), *t, *z), rest))
+}
+
+// How many of what is asked for a layout has.
+fn count<F: FnOnce(LsmLayout) -> Result<usize, Refusal>>(numbers: &[usize], ask: F) -> bool
+    requires { F.IsAlwaysCallable ask }
+    ensures { result ≡ true → 4 ≤ length numbers.now }
+{
+    let Some((layout, said)) = layout(numbers) else {
+        return false;
+    };
+    told(said, layout.and_then(ask))
 }
 
 // The scenes of a layout.
 pub fn scenes(numbers: &[usize]) -> bool
     ensures { result ≡ true → 4 ≤ length numbers.now }
 {
-    let [p, m, t, z, said @ ..] = numbers else {
-        return false;
-    };
-    told(said, layout(*p, *m, *t, *z).map(LsmLayout::scene_count))
+    count(numbers, |l| Ok(l.scene_count()))
 }
 
 // The pages of a layout.
 pub fn pages(numbers: &[usize]) -> bool
     ensures { result ≡ true → 4 ≤ length numbers.now }
 {
-    let [p, m, t, z, said @ ..] = numbers else {
-        return false;
-    };
-    told(
-        said,
-        layout(*p, *m, *t, *z).and_then(LsmLayout::expected_pages),
-    )
+    count(numbers, LsmLayout::expected_pages)
 }
 
 // The page of a scene's time point and plane. No page is 6 here, as whoever asks makes of it.
 pub fn page(numbers: &[usize]) -> bool
     ensures { result ≡ true → 7 ≤ length numbers.now }
 {
-    let [p, m, t_size, z_size, scene, t, z, said @ ..] = numbers else {
+    let Some((layout, rest)) = layout(numbers) else {
+        return false;
+    };
+    let [scene, t, z, said @ ..] = rest else {
         return false;
     };
     let co = Coordinate {
@@ -173,7 +178,7 @@ pub fn page(numbers: &[usize]) -> bool
         c: 0,
         z: *z,
     };
-    match layout(*p, *m, *t_size, *z_size) {
+    match layout {
         Ok(l) => match l.page_index(co) {
             Some(n) => told(said, Ok(n)),
             None => said == [6].as_slice(),

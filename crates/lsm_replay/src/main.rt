@@ -15,6 +15,7 @@ mod cz;
 mod ground;
 mod voxels;
 
+// How the answers compare.
 #[derive(Clone, Copy)]
 struct Tallies {
     plain: Tally,

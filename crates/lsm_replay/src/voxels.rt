@@ -1,19 +1,9 @@
 // Voxel sizes: the pixel size, the Z step and its note.
 ghost use Rattle.std.specs.Prelude.{◌≡◌, true, false, ◌≤◌, length};
-ghost use Rattle.std.specs.Float.Ieee.{binary32, is_nan, to_bits};
 
 use arrayvec::ArrayVec;
 use calibration::{Calibration, ZStep, calibrate, note_figure};
-
-// An f32's bits. A NaN's are 7fc00000, which no line has.
-fn bits(x: f32) -> usize
-    ensures { is_nan x ≡ false → result ≡ to_bits binary32 x }
-{
-    if x.is_nan() {
-        return 0x7fc0_0000;
-    }
-    u64::from(x.to_bits()) as usize
-}
+use std::num::f32_to_bits_with_nan;
 
 // A figure's letters as the bytes of one number.
 fn letters(figure: ArrayVec<u8, 8>) -> usize {
@@ -27,10 +17,10 @@ fn step(said: &[usize], z: ZStep) -> bool
     ensures { result ≡ true → 1 ≤ length said.now }
 {
     match z {
-        ZStep::Used(um) => said == [0, bits(um)].as_slice(),
+        ZStep::Used(um) => said == [0, f32_to_bits_with_nan(um) as usize].as_slice(),
         ZStep::Absent => said == [1].as_slice(),
-        ZStep::Placeholder(_) => said == [2, letters(note_figure(z))].as_slice(),
-        ZStep::TooLarge(_) => said == [3, letters(note_figure(z))].as_slice(),
+        ZStep::Placeholder(_) => said == [2, note_figure(z).map_or(0, letters)].as_slice(),
+        ZStep::TooLarge(_) => said == [3, note_figure(z).map_or(0, letters)].as_slice(),
     }
 }
 
@@ -40,7 +30,9 @@ pub fn calibrated(said: &[usize], calibration: Option<Calibration>) -> bool
 {
     match (calibration, said) {
         (None, [0]) => true,
-        (Some(c), [1, x, y, z @ ..]) => *x == bits(c.x) && *y == bits(c.y) && step(z, c.z),
+        (Some(c), [1, x, y, z @ ..]) => *x == f32_to_bits_with_nan(c.x) as usize
+            && *y == f32_to_bits_with_nan(c.y) as usize
+            && step(z, c.z),
         _ => false,
     }
 }

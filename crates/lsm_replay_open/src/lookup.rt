@@ -3,18 +3,9 @@ ghost use Rattle.std.specs.Prelude.{◌≡◌, true, ◌≤◌, length};
 
 use crate::in_c::FOUND;
 use crate::{NAME, description_of};
-use lsm_channel_colors::ChannelMeta;
 use lsm_description::channel;
 use lsm_words::answers::channel_words;
-use vectors::same::{BYTE, kept, same_then_kept};
-
-// Whether the numbers said are the words of what was found and the name's bytes, and the bytes past the name are as they were.
-fn found(said: &[usize], m: ChannelMeta, name: &[u8]) -> bool {
-    match said.strip_prefix(&channel_words(Ok(m))[..FOUND]) {
-        Some(said) => same_then_kept(said, name, m.name.unwrap_or(0), BYTE),
-        None => false,
-    }
-}
+use vectors::same::{BYTE, same_result};
 
 // Whether the description that opening gives leads to the line's answer. A file that isn't opened leads to none.
 pub fn lookup(said: &[usize], file: &[u8]) -> bool
@@ -31,7 +22,13 @@ pub fn lookup(said: &[usize], file: &[u8]) -> bool
         return false;
     };
     match channel(file, d, *c, name) {
-        Ok(m) => found(said, m, name),
-        Err(r) => kept(name, BYTE) && said == r.numbers().as_slice(),
+        Ok(m) => same_result(
+            said,
+            &channel_words(Ok(m))[..FOUND],
+            name,
+            m.name.unwrap_or(0),
+            BYTE,
+        ),
+        Err(r) => same_result(said, r.numbers().as_slice(), name, 0, BYTE),
     }
 }

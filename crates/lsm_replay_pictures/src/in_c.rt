@@ -7,6 +7,7 @@ use crate::picture::{ROOM, of_opened};
 use lsm_c::pictures::{lsm_plane, lsm_region};
 use lsm_words::answers::PICTURE_WORDS;
 use lsm_words::description::{DESCRIPTION_WORDS, description_words};
+use vectors::asked::{coordinate, rectangle};
 use vectors::same::{BYTE, WORD, same_call};
 
 // How many words of an answer a line says at most: 0, the height, the width and the number of bytes, or a refusal's five.
@@ -14,6 +15,19 @@ fn said_words(number: usize) -> usize
     ensures { result ≡ said_words number }
 {
     if number == 0 { 4 } else { 5 }
+}
+
+// Whether what is said is the answer of the C function that is asked, and the samples.
+fn answered<F: FnOnce(&mut [u8], &mut [usize; PICTURE_WORDS]) -> usize>(
+    said: &[usize],
+    out: &mut [u8],
+    ask: F,
+) -> bool
+    requires { F.IsAlwaysCallable ask }
+{
+    let mut answer = [WORD; PICTURE_WORDS];
+    let number = ask(out, &mut answer);
+    same_call(said, number, &answer, said_words(number), out, BYTE)
 }
 
 // Whether what is said is `lsm_plane`'s answer, and the samples.
@@ -26,22 +40,22 @@ fn plane_agrees(
 ) -> bool
     ensures { result ≡ true → 4 ≤ length said.now }
 {
-    let [scene, t, c, z, said @ ..] = said else {
+    let Some((co, said)) = coordinate(said) else {
         return false;
     };
-    let mut answer = [WORD; PICTURE_WORDS];
-    let number = lsm_plane(
-        file,
-        description,
-        table,
-        *scene,
-        *t,
-        *c,
-        *z,
-        out,
-        &mut answer,
-    );
-    same_call(said, number, &answer, said_words(number), out, BYTE)
+    answered(said, out, |out, answer| {
+        lsm_plane(
+            file,
+            description,
+            table,
+            co.scene,
+            co.t,
+            co.c,
+            co.z,
+            out,
+            answer,
+        )
+    })
 }
 
 // Whether what is said is `lsm_region`'s answer, and the samples.
@@ -54,26 +68,29 @@ fn region_agrees(
 ) -> bool
     ensures { result ≡ true → 8 ≤ length said.now }
 {
-    let [scene, t, c, z, x, y, w, h, said @ ..] = said else {
+    let Some((co, said)) = coordinate(said) else {
         return false;
     };
-    let mut answer = [WORD; PICTURE_WORDS];
-    let number = lsm_region(
-        file,
-        description,
-        table,
-        *scene,
-        *t,
-        *c,
-        *z,
-        *x,
-        *y,
-        *w,
-        *h,
-        out,
-        &mut answer,
-    );
-    same_call(said, number, &answer, said_words(number), out, BYTE)
+    let Some((rect, said)) = rectangle(said) else {
+        return false;
+    };
+    answered(said, out, |out, answer| {
+        lsm_region(
+            file,
+            description,
+            table,
+            co.scene,
+            co.t,
+            co.c,
+            co.z,
+            rect.x,
+            rect.y,
+            rect.w,
+            rect.h,
+            out,
+            answer,
+        )
+    })
 }
 
 // Each of these and of the next two says which function is asked, and nothing else.
@@ -116,10 +133,10 @@ fn of_handed<F: Fn(&[usize], &[u8], &[usize; DESCRIPTION_WORDS], &[usize], &mut 
         return false;
     };
     let mut memory = [BYTE; ROOM];
-    match memory.get_mut(..*room) {
-        Some(out) => ask(said, file, description, table, out),
-        None => false,
-    }
+    let Some(out) = memory.get_mut(..*room) else {
+        return false;
+    };
+    ask(said, file, description, table, out)
 }
 
 pub fn plane_handed(said: &[usize], file: &[u8]) -> bool

@@ -4,11 +4,11 @@ ghost use Rattle.lsm_replay_pictures.specs.Code.{count_of};
 
 use lsm_description::Description;
 use lsm_format::error::Refusal;
-use lsm_format::types::{Coordinate, PixelRect};
 use lsm_reader::open::open_file;
 use lsm_region::{Picture, plane, region};
 use lsm_words::answers::picture_words;
-use vectors::same::{BYTE, kept, same_then_kept};
+use vectors::asked::{coordinate, rectangle};
+use vectors::same::{BYTE, same_result};
 
 // The largest sample buffer that a line lends, and the words of the table.
 pub const ROOM: usize = 1024;
@@ -17,7 +17,7 @@ const WORDS: usize = 256;
 
 // Asks with the description and the table that opening the line's file gives, and with room for the samples. A file that isn't opened
 // agrees with nothing.
-pub fn of_opened<F: Fn(&[usize], &[u8], Description, &[usize], &mut [u8]) -> bool>(
+pub(crate) fn of_opened<F: Fn(&[usize], &[u8], Description, &[usize], &mut [u8]) -> bool>(
     said: &[usize],
     file: &[u8],
     ask: F,
@@ -36,10 +36,10 @@ pub fn of_opened<F: Fn(&[usize], &[u8], Description, &[usize], &mut [u8]) -> boo
         return false;
     };
     let mut memory = [BYTE; ROOM];
-    match memory.get_mut(..*room) {
-        Some(out) => ask(said, file, o.description, table, out),
-        None => false,
-    }
+    let Some(out) = memory.get_mut(..*room) else {
+        return false;
+    };
+    ask(said, file, o.description, table, out)
 }
 
 // Whether what is said is the answer, with what the sample buffer holds after it: past the samples the bytes are as they were.
@@ -47,11 +47,8 @@ fn told(said: &[usize], a: Result<Picture, Refusal>, out: &[u8]) -> bool
     ensures { result ≡ true → length said.now ≡ count_of a }
 {
     match a {
-        Ok(p) => match said.strip_prefix(&picture_words(a)[..4]) {
-            Some(samples) => same_then_kept(samples, out, p.bytes, BYTE),
-            None => false,
-        },
-        Err(r) => kept(out, BYTE) && said == r.numbers().as_slice(),
+        Ok(p) => same_result(said, &picture_words(a)[..4], out, p.bytes, BYTE),
+        Err(r) => same_result(said, r.numbers().as_slice(), out, 0, BYTE),
     }
 }
 
@@ -65,14 +62,8 @@ fn plane_agrees(
 ) -> bool
     ensures { result ≡ true → 4 ≤ length said.now }
 {
-    let [scene, t, c, z, said @ ..] = said else {
+    let Some((co, said)) = coordinate(said) else {
         return false;
-    };
-    let co = Coordinate {
-        scene: *scene,
-        t: *t,
-        c: *c,
-        z: *z,
     };
     told(said, plane(file, d, table, co, out), out)
 }
@@ -87,18 +78,16 @@ fn region_agrees(
 ) -> bool
     ensures { result ≡ true → 8 ≤ length said.now }
 {
-    let [scene, t, c, z, x, y, w, h, said @ ..] = said else {
+    let Some((co, said)) = coordinate(said) else {
         return false;
     };
-    let co = Coordinate {
-        scene: *scene,
-        t: *t,
-        c: *c,
-        z: *z,
+    let Some((rect, said)) = rectangle(said) else {
+        return false;
     };
-    let rect = PixelRect::new(*x, *y, *w, *h);
     told(said, region(file, d, table, co, rect, out), out)
 }
+
+// Each of these two says which function is asked, and nothing else.
 
 pub fn plane_of(said: &[usize], file: &[u8]) -> bool
     ensures { result ≡ true → 1 ≤ length said.now }

@@ -32,10 +32,6 @@ module _ (d : Description) (co : Coordinate) (r : Rect) (there : scene_there d c
       record { right = n.0; across = w.0; bottom = n.1; down = w.1; columns = p.0; rows = p.1 }
 
 module _ (d : Description) (t : List ℕ) (len : ℕ) (co : Coordinate) (r : Rect) where
-  pub region_outside : (row : List ℕ) → scene_there d co.scene ≡ refused row → region_from d t len co r ≡ refused row
-  unfolding region_from coordinate_there bind
-  region_outside row e = rw e
-
   module _ (there : scene_there d co.scene ≡ accepted tt) where
     checked : region_from d t len co r ≡ bind (in_picture d.dims co r) (λ _. filled_strips (is_empty r) d t len co r)
     unfolding region_from in_picture bind

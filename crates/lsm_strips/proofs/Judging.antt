@@ -1,11 +1,12 @@
 -- Laws of a channel's strips, a case each: where they stand in the table, and what the whole-row test says of all of them. Assumes nothing.
 use Prim.Native.Nat.{ℕ, zero, suc, ◌+◌, ◌*◌, ◌/◌, ◌^◌, ◌<◌, ◌≤◌}
-use native.Mathlib.Nat.{not-suc-le-zero, suc-mul, add-zero, zero-add, mul-le-mul, mul-le-mul_right, le-div_iff_mul-le, div-lt_iff_lt-mul}
+use native.Mathlib.Nat.{not-suc-le-zero, zero-mul, mul-zero, suc-mul, add-zero, zero-add, mul-le-mul, mul-le-mul_right, le-div_iff_mul-le, div-lt_iff_lt-mul}
 use native.Mathlib.Omega.{arith}
 use mathlib.Core.Path.{◌≡◌, refl, sym, ap, ap₂, ◌∙◌}
 use mathlib.Core.Bool.{Bool, true, false, not, ◌&&◌, and-false, and-true, cond}
 use Rattle.std.specs.Prelude.{Option, None, Some, Result as Answered, Ok, Err}
 use Rattle.std.specs.Result.{is_ok}
+use Rattle.std.proofs.Common.{Fits, w64}
 use mathlib.Core.List.{List, [], ◌∷◌, ◌++◌}
 use lib.Dec.{eqb, ltb, leb}
 use lib.ListN.{length}
@@ -28,7 +29,8 @@ use Rattle.lsm_format.proofs.Sizes.{sample_size_pos}
 use Rattle.lsm_format.proofs.Apart.{no_case}
 use Rattle.lsm_strips.specs.Parts.{Lying, past_test, start_of}
 use Rattle.lsm_strips.specs.Strips.{strips_at, whole_in}
-use Rattle.lsm_strips.proofs.Pairs.{whole_at}
+use Rattle.std.specs.Simd.{first_chunks}
+use Rattle.lsm_strips.proofs.Pairs.{whole_at, parts_at}
 
 given_none : (r : List ℕ) (o : Option ℕ) (row : List ℕ) → given r o ≡ refused row → o ≡ None
 given_none r None row e = refl
@@ -90,6 +92,13 @@ module _ (d : Description) (words page : ℕ) where
   start_tells start e =
       let b = start_by start (has_page d words page) refl e in
       (b.0, b.1, rw b.1 (page_there d words page b.0).1)
+
+  some_by : (n m : ℕ) → (not (eqb (n * m) 0) && leb (2 * ((page + 1) * (n * m))) words) ≡ true → 0 < m
+  some_by n zero h = let z : ◌≡◌ {A = Bool} false true = rw (mul-zero n) at h in no_case cc
+  some_by n (suc m) h = omega arith
+
+  pub start_some : (start : ℕ) → start_of d words page ≡ Some start → 0 < d.strips_per_channel
+  start_some start e = some_by d.dims.c d.strips_per_channel (start_tells start e).0
 
   none_by : (b : Bool) → cond b (Some (page * strips_per_page d)) None ≡ None → b ≡ false
   none_by true e = no_case cc
@@ -169,22 +178,25 @@ module _ (all one : ℕ → Bool) (step : (m : ℕ) → all (suc m) ≡ (all m &
 pub whole_lost : (d : Description) (t : List ℕ) (page : ℕ) → start_of d (length t) page ≡ None → whole_page d t page ≡ false
 whole_lost d t page e = ap (λ (b : Bool). b && whole_channels d t page d.dims.c) (start_missing d (length t) page e)
 
--- the strips of channel k of a page that starts at strip `start`
-module _ (d : Description) (t : List ℕ) (page start row : ℕ) (s : start ≡ page * strips_per_page d) (w : row ≡ row_bytes d) where
-  pub channel_is : (k : ℕ)
-      → whole_in row (strips_at t (start + k * d.strips_per_channel) d.strips_per_channel) d.dims.y ≡ whole_channel d t (strips_on d page k)
+-- the channels of a page that the table has
+module _ (d : Description) (t : List ℕ) (page row : ℕ) (w : row ≡ row_bytes d) where
+  channel_is : (k : ℕ)
+      → whole_in row (strips_at t (page * strips_per_page d + k * d.strips_per_channel) d.strips_per_channel) d.dims.y ≡ whole_channel d t (strips_on d page k)
   unfolding whole_channel
-  channel_is k = whole_at row t (start + k * d.strips_per_channel) d.strips_per_channel d.dims.y ∙ rw (s, w)
+  channel_is k = whole_at row t (page * strips_per_page d + k * d.strips_per_channel) d.strips_per_channel d.dims.y ∙ rw w refl
 
-pub channels_whole : (d : Description) (t : List ℕ) (page m : ℕ) → ((k : ℕ) → k < m → whole_channel d t (strips_on d page k) ≡ true)
-    → whole_channels d t page m ≡ true
-unfolding whole_channels
-channels_whole d t page m h = all_hold (whole_channels d t page) (λ k. whole_channel d t (strips_on d page k)) (λ k. refl) refl m h
+  channels_listed : (m : ℕ) → list_all (λ k. whole_channel d t (strips_on d page k)) (range_with_len 0 m) ≡ whole_channels d t page m
+  unfolding whole_channels
+  channels_listed m = all_listed (whole_channels d t page) (λ k. whole_channel d t (strips_on d page k)) (λ k. refl) refl m
 
-pub channels_broken : (d : Description) (t : List ℕ) (page k m : ℕ) → k < m → whole_channel d t (strips_on d page k) ≡ false
-    → whole_channels d t page m ≡ false
-unfolding whole_channels
-channels_broken d t page k m l h = one_fails (whole_channels d t page) (λ k. whole_channel d t (strips_on d page k)) (λ k. refl) k m l h
+  pub page_whole : (start : ℕ) → start_of d (length t) page ≡ Some start
+      → list_all (λ strips. whole_in row strips d.dims.y) (first_chunks d.strips_per_channel d.dims.c (strips_at t start (strips_per_page d))) ≡ whole_page d t page
+  page_whole start s =
+      let u = start_tells d (length t) page start s in
+      let z : start ≡ page * strips_per_page d + 0 * d.strips_per_channel = u.1 ∙ omega (arith, zero-mul d.strips_per_channel) in
+      rw (z, u.0)
+      (parts_at (λ strips. whole_in row strips d.dims.y) t (page * strips_per_page d) d.strips_per_channel 0 d.dims.c
+      ∙ ap (λ test. list_all test (range_with_len 0 d.dims.c)) (λ i k. channel_is k i) ∙ channels_listed d.dims.c)
 
 pub pages_listed : (d : Description) (t : List ℕ) (m : ℕ) → list_all (whole_page d t) (range_with_len 0 m) ≡ whole_pages d t m
 unfolding whole_pages
@@ -259,8 +271,15 @@ reckoned d t r w l =
     let n : 1 ≤ r.x + r.w = omega (arith, l.columns) in
     let m : 1 * 1 ≤ (r.x + r.w) * sample_size d.kind = mul-le-mul n (sample_size_pos d.kind) in
     record {
-      some = h.Some;
+      some = h.some;
       row = h.fits;
       part = omega (arith, h.fits, mul-le-mul_right (sample_size d.kind) l.across);
       one = omega arith;
     }
+
+module _ (d : Description) (t : List ℕ) (r : Rect) (w : whole_rows d t ≡ true) (l : Lying d r) (size : ℕ) (z : size ≡ sample_size d.kind) where
+  pub part_fits : Fits w64 ((r.x + r.w) * size)
+  part_fits = record { fits = rw z (reckoned d t r w l).part }
+
+  pub row_fits : Fits w64 (d.dims.x * size)
+  row_fits = record { fits = rw z (reckoned d t r w l).row }

@@ -1,4 +1,5 @@
 pub mod Pairs
+pub mod Chunked
 pub mod Turning
 pub mod Walking
 pub mod Judging

@@ -1,29 +1,75 @@
 -- Strips as the code goes over them are those of the table, and what is said of the ones is said of the others. Assumes nothing.
 use Prim.Native.Nat.{ℕ, zero, suc, ◌+◌, ◌-◌, ◌*◌, ◌/◌, ◌%◌, ◌<◌, ◌≤◌}
+use native.Mathlib.Nat.{zero-add, add-zero, suc-mul}
 use native.Mathlib.Omega.{arith}
 use mathlib.Core.Path.{◌≡◌, refl, sym, ap, ap₂, ◌∙◌}
 use mathlib.Core.Bool.{Bool, true, false, ◌&&◌, and-false}
-use mathlib.Core.List.{List, [], ◌∷◌}
+use mathlib.Core.List.{List, [], ◌∷◌, ◌++◌}
 use lib.Dec.{eqb, ltb, leb}
-use lib.ListN.{length, get_or, take, drop, length-drop}
-use lib.Seq.{drop-cons, length-take-le}
+use lib.ListN.{length, get_or, take, drop}
+use lib.Seq.{drop-cons}
+use Rattle.std.proofs.Math.Seq.{take-append_seam, drop-append_seam}
+use Rattle.std.specs.List.{list_all, range_with_len}
 use borrow.Author.Tests.{eq-eqb, ne_eqb, eqb-true, eqb-false, leb-true, leb-false}
 use Rattle.std.specs.Simd.{first_chunks}
 use Rattle.lsm_format.specs.Answer.{decode}
 use Rattle.lsm_format.specs.Picture.{offset_of, count_of, total, place, inside, in_turn, whole_strips, rows_in, whole_rows_of}
 use Rattle.lsm_strips.specs.Strips.{strips_at, total_in, place_in, all_lie, turn_in, whole_in}
 
-pub chunks_at : (t : List ℕ) (i n : ℕ) → 2 * (i + n) ≤ length t → first_chunks 2 n (take (2 * n) (drop (2 * i) t)) ≡ strips_at t i n
+chunks_at : (t : List ℕ) (i n : ℕ) → 2 * (i + n) ≤ length t → first_chunks 2 n (drop (2 * i) t) ≡ strips_at t i n
 chunks_at t i zero h = refl
 chunks_at t i (suc n) h =
     let a : 2 * i < length t = omega arith in
     let b : suc (2 * i) < length t = omega arith in
-    let e : 2 * suc n ≡ suc (suc (2 * n)) = omega arith in
     let f : suc (suc (2 * i)) ≡ 2 * (i + 1) = omega arith in
     let g : suc (2 * i) ≡ 2 * i + 1 = omega arith in
-    rw (e, drop-cons t (2 * i) 0 a, drop-cons t (suc (2 * i)) 0 b)
+    rw (drop-cons t (2 * i) 0 a, drop-cons t (suc (2 * i)) 0 b)
     (ap₂ (λ (k : ℕ) (l : List (List ℕ)). (get_or t (2 * i) 0 ∷ k ∷ []) ∷ l) (ap (λ (k : ℕ). get_or t k 0) g)
-    (ap (λ (k : ℕ). first_chunks 2 n (take (2 * n) (drop k t))) f ∙ chunks_at t (i + 1) n (omega arith)))
+    (ap (λ (k : ℕ). first_chunks 2 n (drop k t)) f ∙ chunks_at t (i + 1) n (omega arith)))
+
+-- ---- strips after strips
+
+pub strips_long : (t : List ℕ) (i n : ℕ) → length (strips_at t i n) ≡ n
+strips_long t i zero = refl
+strips_long t i (suc n) = ap suc (strips_long t (i + 1) n)
+
+module _ (t : List ℕ) (n : ℕ) where
+  strips_split : (i m : ℕ) → strips_at t i (m + n) ≡ strips_at t i m ++ strips_at t (i + m) n
+  strips_split i zero = rw (zero-add, add-zero) refl
+  strips_split i (suc m) =
+      let e : suc m + n ≡ suc (m + n) = omega arith in
+      let f : i + 1 + m ≡ i + suc m = omega arith in
+      rw e
+      (ap (λ (l : List (List ℕ)). (offset_of t i ∷ count_of t i ∷ []) ∷ l)
+      (strips_split (i + 1) m ∙ ap (λ (k : ℕ). strips_at t (i + 1) m ++ strips_at t k n) f))
+
+  strips_front : (i m : ℕ) → take m (strips_at t i (m + n)) ≡ strips_at t i m
+  strips_front i m =
+      ap (take m) (strips_split i m) ∙ ap (λ (k : ℕ). take k (strips_at t i m ++ strips_at t (i + m) n)) (sym (strips_long t i m))
+      ∙ take-append_seam (strips_at t i m) (strips_at t (i + m) n)
+
+  strips_back : (i m : ℕ) → drop m (strips_at t i (m + n)) ≡ strips_at t (i + m) n
+  strips_back i m =
+      ap (drop m) (strips_split i m) ∙ ap (λ (k : ℕ). drop k (strips_at t i m ++ strips_at t (i + m) n)) (sym (strips_long t i m))
+      ∙ drop-append_seam (strips_at t i m) (strips_at t (i + m) n)
+
+-- the strips of a run, out of all that the table has
+pub run_at : (t : List ℕ) (i n : ℕ) → i + n ≤ length t / 2 → take n (drop i (first_chunks 2 (length t / 2) t)) ≡ strips_at t i n
+run_at t i n h =
+    let m : ℕ = length t / 2 - (i + n) in
+    let e : length t / 2 ≡ i + (n + m) = omega arith in
+    ap (λ (l : List (List ℕ)). take n (drop i l)) (chunks_at t 0 (length t / 2) (omega arith) ∙ ap (strips_at t 0) e)
+    ∙ ap (take n) (strips_back t (n + m) 0 i ∙ ap (λ (k : ℕ). strips_at t k (n + m)) (zero-add i)) ∙ strips_front t m i n
+
+-- a test of strips taken n by n, from those from i + c * n on
+pub parts_at : (test : List (List ℕ) → Bool) (t : List ℕ) (i n c k : ℕ)
+    → list_all test (first_chunks n k (strips_at t (i + c * n) (k * n))) ≡ list_all (λ j. test (strips_at t (i + j * n) n)) (range_with_len c k)
+parts_at test t i n c zero = refl
+parts_at test t i n c (suc k) =
+    let e : suc k * n ≡ n + k * n = suc-mul k n ∙ omega arith in
+    let f : i + c * n + n ≡ i + (c + 1) * n = omega (arith, suc-mul c n) in
+    rw (e, strips_front t (k * n) (i + c * n) n, strips_back t (k * n) (i + c * n) n, f)
+    (ap (λ (b : Bool). test (strips_at t (i + c * n) n) && b) (parts_at test t i n (c + 1) k))
 
 pub total_at : (t : List ℕ) (i n : ℕ) → total_in (strips_at t i n) ≡ total t i n
 unfolding total
@@ -77,12 +123,3 @@ whole_at row t i (suc n) height =
     let c : ℕ = count_of t i / row in
     rw (whole_at row t (i + 1) n (height - c), counted_by (rows_in row t (i + 1) n) c height (leb c height) refl)
     (sym (swapped (eqb (count_of t i % row) 0) (whole_strips row t (i + 1) n) (leb c height) (eqb (rows_in row t (i + 1) n) (height - c))))
-
--- the strips of a run, cut from the table's words
-pub run_at : (t : List ℕ) (i n : ℕ) → 2 * (i + n) ≤ length t
-    → first_chunks 2 (length (take (2 * (i + n) - 2 * i) (drop (2 * i) t)) / 2) (take (2 * (i + n) - 2 * i) (drop (2 * i) t)) ≡ strips_at t i n
-run_at t i n h =
-    let e : 2 * (i + n) - 2 * i ≡ 2 * n = omega arith in
-    let f : length (take (2 * n) (drop (2 * i) t)) ≡ 2 * n = length-take-le (2 * n) (drop (2 * i) t) (omega (arith, length-drop (2 * i) t)) in
-    let g : 2 * n / 2 ≡ n = omega arith in
-    rw (e, f, g) (chunks_at t i n h)

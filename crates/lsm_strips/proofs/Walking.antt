@@ -1,12 +1,12 @@
 -- Laws of the walk over the strips. Assumes nothing.
 use Prim.Native.Nat.{ℕ, ◌+◌, ◌-◌, ◌*◌, ◌/◌, ◌%◌, ◌<◌, ◌≤◌}
-use native.Mathlib.Nat.{add_assoc, add-mul, one-mul, le-div_iff_mul-le, div-add-mod', mod-lt, add-sub_cancel_left}
+use native.Mathlib.Nat.{add_assoc, add-zero, add-mul, one-mul, le-div_iff_mul-le, div-add-mod', mod-lt, add-sub_cancel_left}
 use native.Mathlib.Omega.{arith}
 use mathlib.Core.Path.{◌≡◌, refl, ap, subst, ◌∙◌}
 use mathlib.Core.Bool.{true}
 use mathlib.Core.List.{List, [], ◌∷◌}
 use lib.ListN.{length, get_or, take, drop, length-drop}
-use lib.Seq.{take_all}
+use lib.Seq.{take_all, get_or-drop}
 use borrow.Author.Tests.{le-ltb}
 use Rattle.std.proofs.lemmas.List.{at_drop_more}
 use Rattle.std.specs.Prelude.{Option, None, Some}
@@ -66,6 +66,7 @@ module _ {all : List (List ℕ)} {k : ℕ} (ss : List (List ℕ)) (i into ahead 
       let c : into + ahead * row ≡ ahead * row + into = omega arith in
       record {
         there = omega (arith, st.whole, at_drop_more total_in ss i [] h);
+        first = rw (tail_is ss i, get_or-drop, add-zero) f;
         stands = rw (tail_is ss i, c) st;
       }
 

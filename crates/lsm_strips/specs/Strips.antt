@@ -53,4 +53,5 @@ pub record Stands (all : List (List ℕ)) (k : ℕ) (left : List (List ℕ)) (d 
 -- There is a byte k, and it is byte d of the first of those that are left.
 pub record Reaches (all : List (List ℕ)) (k : ℕ) (left : List (List ℕ)) (d : ℕ) : Type 0 where
   pub there : k < total_in all
+  pub first : d < count_in (get_or left 0 [])
   pub stands : Stands all k left d

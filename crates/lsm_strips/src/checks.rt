@@ -43,7 +43,7 @@ impl Asked<'_> {
     {
         let size = self.d.dims.checked_plane_bytes(self.d.dtype)?;
         let run = self.channel_strips()?;
-        strips_in_turn(run.taken_from(self.table), self.len, size)?;
+        strips_in_turn(run.of(self.table).unwrap(), self.len, size)?;
         Ok(run)
     }
 
@@ -65,7 +65,7 @@ impl Asked<'_> {
         };
         part.checked_plane_bytes(self.d.dtype)?;
         let run = self.channel_strips()?;
-        let strips = run.taken_from(self.table);
+        let strips = run.of(self.table).unwrap();
         let size = self.d.dtype.size_bytes();
         let top = Cursor {
             strips,

@@ -6,7 +6,7 @@ mod pages;
 mod strips;
 pub mod walk;
 
-ghost use Rattle.std.specs.Prelude.{◌≡◌, [], ◌+◌, ◌*◌, ◌<◌, ◌≤◌, length};
+ghost use Rattle.std.specs.Prelude.{◌≡◌, ◌+◌, ◌*◌, ◌<◌, ◌≤◌, length, MatchOption};
 ghost use Rattle.lsm_format.specs.Code.{answer_by, rect_of, coordinate_of};
 ghost use Rattle.lsm_format.specs.Picture.{plane_from, region_from};
 ghost use Rattle.lsm_description.specs.Code.{description_of};
@@ -27,26 +27,13 @@ pub struct StripRun {
 
 impl StripRun {
     // The strips themselves: where each starts, and its bytes. None where the table doesn't have all of them.
-    pub fn of(self, table: &[usize]) -> &[[usize; 2]]
-        ensures there { 2 * (self.first + self.count) ≤ length table.now → result.now ≡ strips_at table.now self.first self.count }
-        ensures lacking { length table.now < 2 * (self.first + self.count) → result.now ≡ [] }
-    {
-        let strips = table.len() / 2;
-        if strips < self.first || strips - self.first < self.count {
-            return &[];
-        }
-        self.taken_from(table)
-    }
-
-    // The same, of a table that has them.
     #[tactic(auto, using(crate::proofs::Pairs::run_at))]
-    fn taken_from(self, table: &[usize]) -> &[[usize; 2]]
-        requires { 2 * (self.first + self.count) ≤ length table.now }
-        ensures { result.now ≡ strips_at table.now self.first self.count }
+    pub fn of(self, table: &[usize]) -> Option<&[[usize; 2]]>
+        ensures { MatchOption result (length table.now < 2 * (self.first + self.count)) (λ strips. (2 * (self.first + self.count) ≤ length table.now) × (strips.now ≡ strips_at table.now self.first self.count)) }
     {
-        let words = &table[2 * self.first..2 * (self.first + self.count)];
-        let (strips, _) = words.as_chunks();
-        strips
+        let (strips, _) = table.as_chunks();
+        let end = self.first.checked_add(self.count)?;
+        strips.get(self.first..end)
     }
 }
 
@@ -77,7 +64,7 @@ pub fn plane_from(
 
 // Region's: the scene, the coordinate and the rectangle, whether it is empty, then the strips. An empty rectangle is read from none, and
 // asks nothing of them.
-#[tactic(auto, using(crate::proofs::Asking::region_outside, crate::proofs::Asking::region_off, crate::proofs::Asking::region_empty, crate::proofs::Asking::region_filled))]
+#[tactic(auto, unfolding(lsm_format::specs::Picture::region_from, lsm_format::specs::Picture::coordinate_there, lsm_format::specs::Answer::bind), using(crate::proofs::Asking::region_off, crate::proofs::Asking::region_empty, crate::proofs::Asking::region_filled))]
 pub fn region_from(
     d: Description,
     table: &[usize],

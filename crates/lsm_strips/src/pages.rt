@@ -1,8 +1,9 @@
 // Where a picture's strips stand in the table, and whether all pages' strips hold whole rows. A handed-in description can name any
 // page, so every product is tested before it is used.
-ghost use Rattle.std.specs.Prelude.{◌≡◌, true, ◌+◌, ◌*◌, ◌≤◌, ◌<◌, length};
+ghost use Rattle.std.specs.Prelude.{◌≡◌, true, ◌*◌, ◌<◌, length};
 ghost use Rattle.lsm_format.specs.Code.{answer_by, coordinate_of};
-ghost use Rattle.lsm_format.specs.Picture.{strips_per_page, channel_strips, row_bytes, whole_channels, whole_page, whole_rows};
+ghost use Rattle.lsm_format.specs.Picture.{channel_strips, row_bytes, whole_page, whole_rows};
+ghost use Rattle.lsm_format.specs.Words.{word};
 ghost use Rattle.lsm_description.specs.Code.{description_of};
 ghost use Rattle.lsm_strips.specs.Parts.{strips_of, past_test, start_of};
 
@@ -26,6 +27,14 @@ fn page_start(d: Description, words: usize, page: usize) -> Option<usize>
 }
 
 impl Asked<'_> {
+    // The bytes of a row, if they fit.
+    #[tactic(auto, unfolding(lsm_format::specs::Words::word))]
+    fn row_bytes(self) -> Option<usize>
+        ensures { result ≡ word (row_bytes (description_of self.entry.d)) }
+    {
+        checked_mul(self.d.dims.x, self.d.dtype.size_bytes())
+    }
+
     // The strips of the channel on the page that the focal plane has.
     #[tactic(auto, using(crate::proofs::Judging::channel_none, crate::proofs::Judging::channel_gone, crate::proofs::Judging::channel_found, crate::proofs::Judging::start_tells, crate::proofs::Judging::channel_fits))]
     pub(crate) fn channel_strips(self) -> Result<StripRun, Refusal>
@@ -57,45 +66,29 @@ impl Asked<'_> {
         pages <= page
     }
 
-    // Whether each channel of a page that the table has holds whole rows. The page's first strip is `start`.
-    #[tactic(auto, using(crate::proofs::Judging::channel_fits, crate::proofs::Judging::channels_whole))]
-    fn whole_channels(self, page: usize, start: usize, row: usize) -> bool
-        requires start { (start ≡ page * strips_per_page (description_of self.d)) × (row ≡ row_bytes (description_of self.d)) × (0 < row) }
-        requires there { 2 * (start + strips_per_page (description_of self.d)) ≤ length self.table.now }
-        ensures { result ≡ whole_channels (description_of self.entry.d) self.entry.table.now page (description_of self.entry.d).dims.c }
-    {
-        let count = self.d.strips_per_channel;
-        for c in 0..self.d.dims.c {
-            let run = StripRun {
-                first: start + c * count,
-                count,
-            };
-            if !strips_of_rows(run.taken_from(self.table), row, self.d.dims.y) {
-                return false;
-            }
-        }
-        true
-    }
-
     // Whether the table has a page, and each of its channels holds whole rows.
     #[tactic(auto, using(crate::proofs::Judging::start_tells, crate::proofs::Judging::whole_lost))]
     fn whole_page(self, page: usize, row: usize) -> bool
         requires { (row ≡ row_bytes (description_of self.d)) × (0 < row) }
         ensures { result ≡ whole_page (description_of self.entry.d) self.entry.table.now page }
     {
-        let Some(start) = page_start(self.d, self.table.len(), page) else {
+        let Some(first) = page_start(self.d, self.table.len(), page) else {
             return false;
         };
-        self.whole_channels(page, start, row)
+        let count = self.d.dims.c * self.d.strips_per_channel;
+        let strips = StripRun { first, count }.of(self.table).unwrap();
+        strips
+            .chunks_exact(self.d.strips_per_channel)
+            .all(|channel| strips_of_rows(channel, row, self.d.dims.y))
     }
 
     // Whether every page's strips hold whole rows. The first that doesn't ends the search. That a row has a byte is looked at here, and asked for
-    // below: a `NonZeroUsize` would be taken apart at each use, and what it is a product of would stand beside it all the same.
+    // above: a `NonZeroUsize` would be taken apart at each use, and what it is a product of would stand beside it all the same.
     #[tactic(auto, using(crate::proofs::Judging::whole_wide, crate::proofs::Judging::whole_empty))]
     pub(crate) fn whole_rows(self) -> bool
         ensures { result ≡ whole_rows (description_of self.entry.d) self.entry.table.now }
     {
-        let Some(row) = checked_mul(self.d.dims.x, self.d.dtype.size_bytes()) else {
+        let Some(row) = self.row_bytes() else {
             return false;
         };
         if row == 0 {

@@ -1,19 +1,10 @@
 // What is asked of a channel's strips. Of each there is where it starts, and its bytes.
-ghost use Rattle.std.specs.Prelude.{◌≡◌, ◌+◌, ◌<◌, leb};
+ghost use Rattle.std.specs.Prelude.{◌≡◌, ◌<◌};
 ghost use Rattle.lsm_format.specs.Code.{answer_of};
 ghost use Rattle.lsm_strips.specs.Strips.{all_lie, turn_in, whole_in};
 
-use lsm_format::checked::checked_add;
 use lsm_format::error::Refusal;
-
-// Whether a strip lies in a file of `len` bytes. One whose end overflows doesn't. The same sum as of a rectangle's side, but the rule of rectangles
-// names the overflow, and this one the end alone.
-#[tactic(auto, unfolding(lsm_format::specs::Words::word))]
-fn lies_within(offset: usize, count: usize, len: usize) -> bool
-    ensures { result ≡ leb (offset + count) len }
-{
-    checked_add(offset, count).is_some_and(|end| end <= len)
-}
+use lsm_format::types::within_size;
 
 // Whether each of the strips lies in a file of `len` bytes.
 pub(crate) fn strips_inside(strips: &[[usize; 2]], len: usize) -> bool
@@ -21,7 +12,7 @@ pub(crate) fn strips_inside(strips: &[[usize; 2]], len: usize) -> bool
 {
     strips
         .iter()
-        .all(|&[offset, count]| lies_within(offset, count, len))
+        .all(|&[offset, count]| within_size(offset, count, len))
 }
 
 // The strips in turn: each lies in the file, and has no more bytes than are still to come; together they have the picture's bytes. What is
@@ -32,7 +23,7 @@ pub(crate) fn strips_in_turn(strips: &[[usize; 2]], len: usize, size: usize) -> 
 {
     let mut left = size;
     for &[offset, count] in strips {
-        if !lies_within(offset, count, len) {
+        if !within_size(offset, count, len) {
             return Err(Refusal::Decode); // outside the file
         }
         left = left.checked_sub(count).ok_or(Refusal::Decode)?; // too many bytes

@@ -23,6 +23,7 @@ impl<'a> Cursor<'a> {
 
     // The same, where a row has a byte. A strip that ends before the place looked for is passed whole: the rows that begin in it are counted
     // off, and the last of them reaches into the next strip.
+    #[tactic(auto, using(crate::proofs::Walking::reaches))]
     fn pass(self, rows: usize, row: usize) -> Option<Cursor<'a>>
         requires { 0 < row }
         ensures { MatchOption result (total_in self.entry.strips.now ≤ rows * row + self.entry.into) (λ c. Reaches self.entry.strips.now (rows * row + self.entry.into) c.strips.now c.into) }

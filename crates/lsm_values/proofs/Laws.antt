@@ -3,12 +3,13 @@ use Prim.Native.Nat.{ℕ, zero, suc, ◌+◌, ◌*◌, ◌≤◌, ◌<◌}
 use native.Mathlib.Nat.{add-zero, mul-zero, mul-suc}
 use native.Mathlib.Omega.{arith}
 use mathlib.Core.Bool.{Bool, true, false, not, cond}
-use Rattle.std.specs.Prelude.{Option, None, Some}
+use Rattle.std.specs.Prelude.{Option, None, Some, get_or, slice_get}
+use Rattle.std.proofs.lemmas.Option.{slice_get_past, unwrap_or-slice_get}
 use Rattle.std.proofs.lemmas.Bool.Decides.{nat_tests}
 use mathlib.Core.Path.{◌≡◌, refl, sym, ◌∙◌}
 use mathlib.Core.List.{List, []}
 use lib.Dec.{leb, eqb}
-use lib.ListN.{length, get_or, get_or-eq_default}
+use lib.ListN.{length}
 use borrow.Author.Tests.{ne_eqb, eqb-true, eqb-false, leb-true, leb-false}
 use Rattle.lsm_format.specs.Answer.{Result, accepted, refused, bind, need, parse, decode}
 use Rattle.lsm_format.specs.Numbers.{Order, number_at}
@@ -16,6 +17,7 @@ use Rattle.lsm_format.specs.Directory.{type_size, integer_size, value_at, values
 use Rattle.lsm_format.proofs.Directory.{values_next, values_past, scalar_no_number, scalar_nowhere, scalar_no_count, scalar_is, integer_size_lem}
 use Rattle.lsm_format.proofs.Numbers.{number_there}
 use Rattle.lsm_values.specs.Values.{or_nought, values, array_at}
+use Rattle.std.specs.Option.{unwrap_or}
 
 -- ---- scalars
 
@@ -106,17 +108,26 @@ values_length zero size o f p = refl
 values_length (suc n) size o f p = rw (values_length n size o f (p + size))
 
 -- value i of an array
-pub value_at_lem : (n size : ℕ) (o : Order) (f : List ℕ) (p i : ℕ) → i < n → get_or (values n size o f p) i 0 ≡ or_nought (number_at size o f (p + size * i))
+pub value_there : (n size : ℕ) (o : Order) (f : List ℕ) (p i : ℕ) → i < n →
+    slice_get (values n size o f p) i ≡ Some (or_nought (number_at size o f (p + size * i)))
 unfolding values
-value_at_lem zero size o f p i h = absurd (never i h)
+value_there zero size o f p i h = absurd (never i h)
   where
     never : (i : ℕ) → i < 0 → ⊥
     never i h = omega arith
-value_at_lem (suc n) size o f p zero h = rw (mul-zero, add-zero)
-value_at_lem (suc n) size o f p (suc i) h =
+value_there (suc n) size o f p zero h = rw (mul-zero, add-zero)
+value_there (suc n) size o f p (suc i) h =
     let q : p + size + size * i ≡ p + size * suc i = omega (arith, mul-suc size i) in
-    rw (← q) (value_at_lem n size o f (p + size) i (omega arith))
+    rw (← q) (value_there n size o f (p + size) i (omega arith))
 
 -- past the count there is none
-pub value_none : (n size : ℕ) (o : Order) (f : List ℕ) (p i : ℕ) → n ≤ i → get_or (values n size o f p) i 0 ≡ 0
-value_none n size o f p i h = get_or-eq_default (values n size o f p) 0 (rw (values_length n size o f p) h)
+pub value_none : (n size : ℕ) (o : Order) (f : List ℕ) (p i : ℕ) → n ≤ i → slice_get (values n size o f p) i ≡ None
+value_none n size o f p i h = slice_get_past (values n size o f p) i (rw (values_length n size o f p) h)
+
+-- the value that there may be, and 0 where there is none
+pub value_or : (l : List ℕ) (i : ℕ) → unwrap_or (slice_get l i) 0 ≡ get_or l i 0
+value_or l i = unwrap_or-slice_get l i 0
+
+-- the same of a value that is there
+pub value_at_lem : (n size : ℕ) (o : Order) (f : List ℕ) (p i : ℕ) → i < n → get_or (values n size o f p) i 0 ≡ or_nought (number_at size o f (p + size * i))
+value_at_lem n size o f p i h = rw (value_there n size o f p i h) at (sym (value_or (values n size o f p) i))

@@ -1,7 +1,7 @@
 // The values of a directory's entries: their types, where they stand, single numbers and strip arrays.
 #![tactic(auto)]
 
-ghost use Rattle.std.specs.Prelude.{◌≡◌, ◌+◌, ◌*◌, ◌≤◌, ◌<◌, get_or, None, Some, option_map};
+ghost use Rattle.std.specs.Prelude.{◌≡◌, ◌+◌, ◌*◌, ◌≤◌, ◌<◌, get_or, slice_get, None, Some, option_map};
 ghost use Rattle.lsm_format.specs.Code.{order_of, answer_of, answer_by};
 ghost use Rattle.lsm_format.specs.Numbers.{Order, number_at};
 ghost use Rattle.lsm_format.specs.Words.{word};
@@ -192,16 +192,24 @@ fn value_offset(a: StripArray, i: usize) -> Option<usize>
     checked_add(a.place, checked_mul(a.width.bytes(), i)?)
 }
 
-// Value i of a strip array; 0 where there is none.
-#[tactic(auto, unfolding(crate::specs::Values::or_nought, lsm_format::specs::Words::word), using(crate::proofs::Laws::value_none, crate::proofs::Laws::value_at_lem, lsm_format::proofs::Numbers::number_past, std::proofs::lemmas::Bool::Decides::nat_tests))]
+// Value i of a strip array, if it has so many. One that is not in the file is 0: an array that was read has none of that sort.
+#[tactic(auto, unfolding(crate::specs::Values::or_nought, lsm_format::specs::Words::word), using(crate::proofs::Laws::value_none, crate::proofs::Laws::value_there, lsm_format::proofs::Numbers::number_past, std::proofs::lemmas::Bool::Decides::nat_tests))]
+pub fn get_strip_value(buf: &[u8], a: StripArray, i: usize, e: Endian) -> Option<usize>
+    ensures { result ≡ slice_get (values_of (order_of e) buf.now a) i }
+{
+    if a.count <= i {
+        return None;
+    }
+    let Some(off) = value_offset(a, i) else {
+        return Some(0);
+    };
+    Some(read_number(buf, off, a.width, e).unwrap_or(0) as usize)
+}
+
+// The same; 0 where there is none.
+#[tactic(auto, using(crate::proofs::Laws::value_or))]
 pub fn strip_value(buf: &[u8], a: StripArray, i: usize, e: Endian) -> usize
     ensures { result ≡ get_or (values_of (order_of e) buf.now a) i 0 }
 {
-    if a.count <= i {
-        return 0;
-    }
-    let Some(off) = value_offset(a, i) else {
-        return 0;
-    };
-    read_number(buf, off, a.width, e).unwrap_or(0) as usize
+    get_strip_value(buf, a, i, e).unwrap_or(0)
 }

@@ -19,8 +19,9 @@ row_short (SceneOutOfRange scene count) = omega arith
 row_short (OutOfRange scene t c z) = omega arith
 row_short (TooShort needed) = omega arith
 
-pub padded_row : (n : ℕ) (r : Refusal) → 5 ≤ n → row_of r ++ drop (length (row_of r)) (replicate n 0) ≡ padded n (row_of r)
-padded_row n r h =
+pub padded_row : (n k : ℕ) (r : Refusal) (row copied : List ℕ) → 5 ≤ n → row ≡ row_of r → copied ≡ row → k ≡ length row
+    → copied ++ drop k (replicate n 0) ≡ padded n (row_of r)
+padded_row n k r row copied h is same all =
     let s = row_short r in
     let e : n - length (row_of r) ≡ (5 - length (row_of r)) + (n - 5) = omega arith in
-    rw (drop-replicate, e, ← replicate-append-replicate) (sym (append_assoc (row_of r) _ _))
+    rw (all, same, is, drop-replicate, e, ← replicate-append-replicate) (sym (append_assoc (row_of r) _ _))

@@ -1,56 +1,15 @@
--- Laws of a description's words, both ways, a case each. Assumes nothing.
+-- The words of a description, one by one, and how many they are. Assumes nothing.
 use Prim.Native.Nat.{ℕ}
 use native.Mathlib.Omega.{arith}
 use mathlib.Core.Path.{◌≡◌, refl, ap, ◌∙◌}
 use Rattle.std.specs.Prelude.{Option, None, Some}
 use mathlib.Core.List.{List, [], ◌∷◌, ◌++◌}
 use lib.ListN.{length, get_or, length-append}
-use Rattle.lsm_format.specs.Answer.{refused, accepted, bind}
-use Rattle.lsm_format.specs.Numbers.{Order}
-use Rattle.lsm_format.specs.Sizes.{Kind}
 use Rattle.lsm_format.specs.Calibration.{Calibration}
 use Rattle.lsm_format.specs.Open.{Description}
-use Rattle.lsm_words.specs.Calibration.{size_words, size_by}
+use Rattle.lsm_words.specs.Calibration.{size_words}
 use Rattle.lsm_words.proofs.Calibrations.{from, all, size_long}
 use Rattle.lsm_words.specs.Description.{description_length, order_word, kind_word, block_words, description_words}
-use Rattle.lsm_words.specs.Description.{order_by, kind_by, block_by, described_by}
-
--- ---- the whole
-
-module _ (w : List ℕ) where
-  pub no_order : (row : List ℕ) → order_by (get_or w 0 0) ≡ refused row → refused row ≡ described_by w
-  unfolding described_by bind
-  no_order row e = rw e
-
-  module _ (o : Order) (p : order_by (get_or w 0 0) ≡ accepted o) where
-    pub no_kind : (row : List ℕ) → kind_by (get_or w 1 0) ≡ refused row → refused row ≡ described_by w
-    unfolding described_by bind
-    no_kind row e = rw (p, e)
-
-    module _ (k : Kind) (q : kind_by (get_or w 1 0) ≡ accepted k) where
-      pub no_size : (row : List ℕ) → size_by (get_or w 10 0) (get_or w 11 0) (get_or w 12 0) (get_or w 13 0) (get_or w 14 0) ≡ refused row → refused row ≡ described_by w
-      unfolding described_by bind
-      no_size row e = rw (p, q, e)
-
-      module _ (s : Calibration) (i : size_by (get_or w 10 0) (get_or w 11 0) (get_or w 12 0) (get_or w 13 0) (get_or w 14 0) ≡ accepted s) where
-        pub no_block : (row : List ℕ) → block_by (get_or w 15 0) (get_or w 16 0) ≡ refused row → refused row ≡ described_by w
-        unfolding described_by bind
-        no_block row e = rw (p, q, i, e)
-
-        pub described_is : (b : Option ℕ) → block_by (get_or w 15 0) (get_or w 16 0) ≡ accepted b →
-            accepted (record {
-              order = o;
-              kind = k;
-              dims = record { t = get_or w 2 0; c = get_or w 3 0; z = get_or w 4 0; y = get_or w 5 0; x = get_or w 6 0 };
-              layout = record { scenes = get_or w 7 0; t = get_or w 17 0; depth = get_or w 8 0 };
-              strips_per_channel = get_or w 9 0;
-              calibration = s;
-              channel_block = b;
-            }) ≡ described_by w
-        unfolding described_by bind
-        described_is b e = rw (p, q, i, e)
-
--- ---- words one by one
 
 block_long : (b : Option ℕ) → length (block_words b) ≡ 2
 unfolding block_words

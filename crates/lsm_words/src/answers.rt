@@ -47,16 +47,21 @@ pub fn open_words(a: Result<Opened, Refusal>) -> [usize; OPEN_WORDS]
     }
 }
 
+// Whether there is a colour, and its red, green and blue.
 #[tactic(auto, unfolding(crate::specs::Answers::color_words))]
 fn color_words(color: Option<[u8; 3]>) -> [usize; 4]
     ensures { result ≡ color_words color }
 {
     match color {
         None => [0; 4],
-        Some(rgb) => [1, rgb[0] as usize, rgb[1] as usize, rgb[2] as usize],
+        Some(rgb) => {
+            let [red, green, blue] = rgb;
+            [1, red as usize, green as usize, blue as usize]
+        }
     }
 }
 
+// 0, the colour's words, the name's words, and a 0.
 #[tactic(auto, unfolding(crate::specs::Answers::color_words, crate::specs::Answers::name_words))]
 pub fn channel_words(a: Result<ChannelMeta, Refusal>) -> [usize; CHANNEL_WORDS]
     ensures { result ≡ channel_words (answer_by meta_of a) }
@@ -71,6 +76,7 @@ pub fn channel_words(a: Result<ChannelMeta, Refusal>) -> [usize; CHANNEL_WORDS]
     }
 }
 
+// 0, the height, the width, the bytes, and a 0.
 pub fn picture_words(a: Result<Picture, Refusal>) -> [usize; PICTURE_WORDS]
     ensures { result ≡ picture_words (answer_by shape_of_picture a) }
 {

@@ -1,5 +1,5 @@
 // A description as words, which a C caller keeps and hands in again: written, and read back.
-ghost use Rattle.std.specs.Prelude.{◌≡◌};
+ghost use Rattle.std.specs.Prelude.{◌≡◌, get_or};
 ghost use Rattle.lsm_format.specs.Code.{order_of, kind_of, answer_of, answer_by};
 ghost use Rattle.lsm_description.specs.Code.{description_of};
 ghost use Rattle.lsm_words.specs.Answers.{name_words};
@@ -12,7 +12,7 @@ use lsm_format::error::Refusal;
 use lsm_format::types::{DType, Dims5, Endian};
 use lsm_positions::LsmLayout;
 
-// How many words a description has. A word more stands at the end.
+// How many words a description has. Those that a request adds stand at the end.
 pub const DESCRIPTION_WORDS: usize = 18;
 
 // Whether there is a number, and the number: a channel block's place, or a name's length.
@@ -27,7 +27,8 @@ pub(crate) fn optional_words(n: Option<usize>) -> [usize; 2]
     }
 }
 
-#[tactic(auto, unfolding(crate::specs::Description::description_words))]
+// The words of a description.
+#[tactic(auto, using(crate::proofs::Descriptions::description_is))]
 pub fn description_words(d: Description) -> [usize; DESCRIPTION_WORDS]
     ensures { result ≡ description_words (description_of d) }
 {
@@ -55,8 +56,9 @@ pub fn description_words(d: Description) -> [usize; DESCRIPTION_WORDS]
     ]
 }
 
-// ---- and back: functions of this crate, since `TryFrom` would have to stand with the types, which know nothing of the words
+// ---- and back
 
+// The byte order that a word is.
 #[tactic(auto, unfolding(crate::specs::Description::order_by, crate::specs::Calibration::chosen))]
 fn order_of(word: usize) -> Result<Endian, Refusal>
     ensures { answer_by order_of result ≡ order_by word }
@@ -68,6 +70,7 @@ fn order_of(word: usize) -> Result<Endian, Refusal>
     }
 }
 
+// The kind of sample that a word is.
 #[tactic(auto, unfolding(crate::specs::Description::kind_by, crate::specs::Calibration::chosen))]
 fn kind_of(word: usize) -> Result<DType, Refusal>
     ensures { answer_by kind_of result ≡ kind_by word }
@@ -81,13 +84,14 @@ fn kind_of(word: usize) -> Result<DType, Refusal>
     }
 }
 
+// The channel block's place, or none, of the two words that `optional_words` gives.
 #[tactic(auto, unfolding(crate::specs::Description::block_by, crate::specs::Calibration::chosen))]
-fn block_of(there: usize, place: usize) -> Result<Option<usize>, Refusal>
-    ensures { answer_of result ≡ block_by there place }
+fn block_of(words: [usize; 2]) -> Result<Option<usize>, Refusal>
+    ensures { answer_of result ≡ block_by (get_or words 0 0) (get_or words 1 0) }
 {
-    match there {
-        0 => Ok(None),
-        1 => Ok(Some(place)),
+    match words {
+        [0, _] => Ok(None),
+        [1, place] => Ok(Some(place)),
         _ => Err(Refusal::Decode),
     }
 }
@@ -97,27 +101,37 @@ fn block_of(there: usize, place: usize) -> Result<Option<usize>, Refusal>
 pub fn read_description(words: &[usize; DESCRIPTION_WORDS]) -> Result<Description, Refusal>
     ensures { answer_by description_of result ≡ described_by words.now }
 {
-    let endian = order_of(words[0])?;
-    let dtype = kind_of(words[1])?;
-    let calibration = size_of(words[10], words[11], words[12], words[13], words[14])?;
-    let channel_colors_offset = block_of(words[15], words[16])?;
+    let [
+        order,
+        kind,
+        t,
+        c,
+        z,
+        y,
+        x,
+        scenes,
+        pages_per_time_point,
+        strips_per_channel,
+        sized,
+        x_bits,
+        y_bits,
+        step,
+        step_bits,
+        there,
+        place,
+        time_points,
+    ] = *words;
     Ok(Description {
-        endian,
-        dtype,
-        dims: Dims5 {
-            t: words[2],
-            c: words[3],
-            z: words[4],
-            y: words[5],
-            x: words[6],
-        },
+        endian: order_of(order)?,
+        dtype: kind_of(kind)?,
+        dims: Dims5 { t, c, z, y, x },
         layout: LsmLayout {
-            scenes: words[7],
-            time_points: words[17],
-            pages_per_time_point: words[8],
+            scenes,
+            time_points,
+            pages_per_time_point,
         },
-        strips_per_channel: words[9],
-        calibration,
-        channel_colors_offset,
+        strips_per_channel,
+        calibration: size_of([sized, x_bits, y_bits, step, step_bits])?,
+        channel_colors_offset: block_of([there, place])?,
     })
 }

@@ -1,22 +1,19 @@
 // A calibration as five words of a description: written, and read back.
-ghost use Rattle.std.specs.Prelude.{◌≡◌, Some};
+ghost use Rattle.std.specs.Prelude.{◌≡◌, get_or};
 ghost use Rattle.lsm_format.specs.Code.{answer_of, answer_by};
 ghost use Rattle.calibration.specs.Calibrated.{step_of, calibration_of};
 ghost use Rattle.lsm_words.specs.Calibration.{float_word, step_words, size_words};
-ghost use Rattle.lsm_words.specs.Calibration.{float_by, step_by, sized_by, size_by};
+ghost use Rattle.lsm_words.specs.Calibration.{float_by, step_by, size_by};
 
 use calibration::{Calibration, ZStep};
 use lsm_format::error::Refusal;
+use std::num::{f32_from_bits_with_nan, f32_to_bits_with_nan};
 
-// The bits of an f32. A NaN has no pattern of its own; none is ever in a description that opening gives.
-#[tactic(auto, using(crate::proofs::Calibrations::nan_word, crate::proofs::Calibrations::word_small))]
+// The bits of an f32, a NaN's too; none is ever in a description that opening gives.
 fn float_word(x: f32) -> usize
     ensures { result ≡ float_word x }
 {
-    if x.is_nan() {
-        return 0x7fc0_0000;
-    }
-    x.to_bits() as usize
+    f32_to_bits_with_nan(x) as usize
 }
 
 // What became of the Z step, and its bits.
@@ -47,57 +44,44 @@ pub(crate) fn size_words(size: Option<Calibration>) -> [usize; 5]
 
 // ---- and back
 
-#[tactic(auto, using(crate::proofs::Calibrations::float_high, crate::proofs::Calibrations::float_nan, crate::proofs::Calibrations::float_is, crate::proofs::Calibrations::float_number))]
+#[tactic(auto, using(crate::proofs::Calibrations::float_high, crate::proofs::Calibrations::float_nan, crate::proofs::Calibrations::float_is))]
 fn float_of(word: usize) -> Result<f32, Refusal>
     ensures { answer_of result ≡ float_by word }
 {
-    if 0xffff_ffff < word {
+    let bits = u32::try_from(word).map_err(|_| Refusal::Decode)?;
+    let x = f32_from_bits_with_nan(bits);
+    if x.is_nan() {
         return Err(Refusal::Decode);
     }
-    // without its sign a NaN's pattern is above the infinity's; no float is made of it
-    if 0x7f80_0000 < (word & 0x7fff_ffff) {
-        return Err(Refusal::Decode);
-    }
-    Ok(f32::from_bits(word as u32))
+    Ok(x)
 }
 
+// The step of the two words that `step_words` gives.
 #[tactic(auto, unfolding(crate::specs::Calibration::step_by, crate::specs::Calibration::chosen, lsm_format::specs::Answer::bind))]
-fn step_of(choice: usize, bits: usize) -> Result<ZStep, Refusal>
-    ensures { answer_by step_of result ≡ step_by choice bits }
+fn step_of(words: [usize; 2]) -> Result<ZStep, Refusal>
+    ensures { answer_by step_of result ≡ step_by (get_or words 0 0) (get_or words 1 0) }
 {
-    match choice {
-        0 => Ok(ZStep::Used(float_of(bits)?)),
-        1 => Ok(ZStep::Absent),
-        2 => Ok(ZStep::Placeholder(float_of(bits)?)),
-        3 => Ok(ZStep::TooLarge(float_of(bits)?)),
+    match words {
+        [0, bits] => Ok(ZStep::Used(float_of(bits)?)),
+        [1, _] => Ok(ZStep::Absent),
+        [2, bits] => Ok(ZStep::Placeholder(float_of(bits)?)),
+        [3, bits] => Ok(ZStep::TooLarge(float_of(bits)?)),
         _ => Err(Refusal::Decode),
     }
 }
 
-#[tactic(auto, unfolding(crate::specs::Calibration::sized_by, lsm_format::specs::Answer::bind))]
-fn sized_of(x: usize, y: usize, choice: usize, bits: usize) -> Result<Calibration, Refusal>
-    ensures { answer_by (λ s. calibration_of (Some s)) result ≡ sized_by x y choice bits }
+// The size of the five words that `size_words` gives.
+#[tactic(auto, unfolding(crate::specs::Calibration::size_by, crate::specs::Calibration::sized_by, crate::specs::Calibration::chosen, lsm_format::specs::Answer::bind))]
+pub(crate) fn size_of(words: [usize; 5]) -> Result<Option<Calibration>, Refusal>
+    ensures { answer_by calibration_of result ≡ size_by (get_or words 0 0) (get_or words 1 0) (get_or words 2 0) (get_or words 3 0) (get_or words 4 0) }
 {
-    Ok(Calibration {
-        x: float_of(x)?,
-        y: float_of(y)?,
-        z: step_of(choice, bits)?,
-    })
-}
-
-#[tactic(auto, unfolding(crate::specs::Calibration::size_by, crate::specs::Calibration::chosen, lsm_format::specs::Answer::bind))]
-pub(crate) fn size_of(
-    stated: usize,
-    x: usize,
-    y: usize,
-    choice: usize,
-    bits: usize,
-) -> Result<Option<Calibration>, Refusal>
-    ensures { answer_by calibration_of result ≡ size_by stated x y choice bits }
-{
-    match stated {
-        0 => Ok(None),
-        1 => Ok(Some(sized_of(x, y, choice, bits)?)),
+    match words {
+        [0, ..] => Ok(None),
+        [1, x, y, choice, bits] => Ok(Some(Calibration {
+            x: float_of(x)?,
+            y: float_of(y)?,
+            z: step_of([choice, bits])?,
+        })),
         _ => Err(Refusal::Decode),
     }
 }

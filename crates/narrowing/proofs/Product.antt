@@ -1,15 +1,13 @@
 -- The product by a million and its narrowing: where they are no NaN, and that the pattern written is read as the micrometres.
 -- Assumes nothing.
-use mathlib.Core.Path.{◌≡◌, refl, sym, ap, ◌∙◌, subst}
-use Prim.Native.Nat.{ℕ, zero, suc, ◌+◌, ◌*◌, ◌^◌, ◌≤◌, ◌<◌}
+use mathlib.Core.Path.{◌≡◌, refl, sym, ap, ◌∙◌}
+use Prim.Native.Nat.{ℕ, zero, suc, ◌+◌, ◌*◌, ◌^◌}
 use mathlib.Core.Bool.{Bool, true, false, not, cond, false≢true}
 use lib.Dec.{T, ltb}
-use lib.Bits.{bit_and, and_mask}
 use lib.Ieee.{Float, nan, inf, fin, Format, binary32, binary64, prec, emax, low, unlike, up, down}
 use lib.Ieee.{odd, units, round, mul, fits, is_nan, nan_bits, of_bits, to_bits}
-use lib.Ieee.Bits.{of_bits-to_bits, nan_bits_is, nan_bits_above}
+use lib.Ieee.Bits.{of_bits-to_bits, nan_bits_is}
 use lib.Ieee.Fits.{round-fits, mul-fits, nan-fits, inf-fits}
-use borrow.Author.Tests.{lt-ltb, le-ltb}
 use Rattle.lsm_format.specs.Calibration.{million, narrow, micrometres}
 
 -- ---- no NaN
@@ -42,6 +40,12 @@ mul_number nan h = h
 mul_number (inf s) h = tt
 mul_number (fin s m e) h = round_number binary64 (unlike s false) (m * up e * (15625 * 2 ^ 6)) (down e * 1)
 
+is_nan_lem : (v : Float) → is_nan v ≡ true → v ≡ nan
+unfolding is_nan
+is_nan_lem nan h = refl
+is_nan_lem (inf s) h = absurd (false≢true h)
+is_nan_lem (fin s m e) h = absurd (false≢true h)
+
 narrow_number : (v : Float) → Number v → Number (narrow v)
 unfolding narrow is_nan
 narrow_number nan h = h
@@ -53,28 +57,6 @@ unfolding narrow
 narrow_fits nan = nan-fits binary32
 narrow_fits (inf s) = inf-fits binary32 s
 narrow_fits (fin s m e) = round-fits binary32 s (m * up e) (down e)
-
--- ---- which patterns the code's test refuses
-
--- without its sign's bit a NaN's pattern is above the infinity's
-tested : (b : ℕ) → nan_bits binary64 b ≡ ltb 0x7ff0_0000_0000_0000 (bit_and b 0x7fff_ffff_ffff_ffff)
-tested b = nan_bits_above binary64 b ∙ ap (ltb 0x7ff0_0000_0000_0000) (sym (and_mask b 63))
-
-is_nan_lem : (v : Float) → is_nan v ≡ true → v ≡ nan
-unfolding is_nan
-is_nan_lem nan h = refl
-is_nan_lem (inf s) h = absurd (false≢true h)
-is_nan_lem (fin s m e) h = absurd (false≢true h)
-
-pub pattern_nan : (b : ℕ) → 0x7ff0_0000_0000_0000 < bit_and b 0x7fff_ffff_ffff_ffff → of_bits binary64 b ≡ nan
-pattern_nan b h = is_nan_lem (of_bits binary64 b) (sym (nan_bits_is binary64 b) ∙ tested b ∙ lt-ltb _ _ h)
-
-pub refused : (b : ℕ) → 0x7ff0_0000_0000_0000 < bit_and b 0x7fff_ffff_ffff_ffff → micrometres b ≡ nan
-unfolding micrometres narrow mul
-refused b h = ap (λ (v : Float). narrow (mul binary64 v million)) (pattern_nan b h)
-
-pub taken : (b : ℕ) → bit_and b 0x7fff_ffff_ffff_ffff ≤ 0x7ff0_0000_0000_0000 → T (not (nan_bits binary64 b))
-taken b h = subst (λ (t : Bool). T (not t)) (sym (tested b ∙ le-ltb _ _ h)) tt
 
 -- ---- the product, and what it is narrowed to
 
@@ -90,24 +72,26 @@ product b = mul binary64 (of_bits binary64 b) (of_bits binary64 0x412e_8480_0000
 abbrev pub pattern : ℕ → ℕ
 pattern b = to_bits binary32 (narrow (of_bits binary64 (to_bits binary64 (product b))))
 
-pub product_number : (b : ℕ) → T (not (nan_bits binary64 b)) → Number (product b)
-product_number b h = rw factor (mul_number (of_bits binary64 b) (rw (nan_bits_is binary64 b) at h))
+by_product : (b : ℕ) → micrometres b ≡ narrow (product b)
+unfolding micrometres
+by_product b = ap (λ (v : Float). narrow (mul binary64 (of_bits binary64 b) v)) (sym factor)
+
+-- a product that is a NaN
+pub product_nan : (b : ℕ) → is_nan (product b) ≡ true → micrometres b ≡ nan
+unfolding narrow
+product_nan b h = by_product b ∙ ap narrow (is_nan_lem (product b) h)
 
 pub narrowed : (b r : ℕ) → r ≡ pattern b → of_bits binary32 r ≡ micrometres b
-unfolding micrometres
 narrowed b r e =
     let p = product b in
     let q : of_bits binary64 (to_bits binary64 p) ≡ p = of_bits-to_bits binary64 p (mul-fits binary64 _ _) in
     ap (of_bits binary32) (e ∙ ap (λ (v : Float). to_bits binary32 (narrow v)) q)
     ∙ of_bits-to_bits binary32 (narrow p) (narrow_fits p)
-    ∙ ap (λ (v : Float). narrow (mul binary64 (of_bits binary64 b) v)) factor
+    ∙ sym (by_product b)
 
-pub narrowed_number : (b : ℕ) → T (not (nan_bits binary64 b)) → T (not (nan_bits binary32 (pattern b)))
-unfolding micrometres
-narrowed_number b h =
-    let v = of_bits binary64 b in
-    rw (nan_bits_is binary32 (pattern b), narrowed b (pattern b) refl)
-    (narrow_number (mul binary64 v million) (mul_number v (rw (nan_bits_is binary64 b) at h)))
+-- and one that is none
+pub narrowed_number : (b : ℕ) → is_nan (product b) ≡ false → T (not (nan_bits binary32 (pattern b)))
+narrowed_number b h = rw (nan_bits_is binary32 (pattern b), narrowed b (pattern b) refl, by_product b) (narrow_number (product b) (rw h tt))
 
 -- what is no NaN has no NaN's micrometres
 pub micrometres_number : (b : ℕ) → Number (of_bits binary64 b) → Number (micrometres b)

@@ -8,6 +8,8 @@ ghost use Rattle.std.specs.Float.Ieee.Nearest.{closest};
 ghost use Rattle.lsm_format.specs.Calibration.{narrow, micrometres};
 ghost use Rattle.narrowing.specs.Code.{float_of};
 
+use std::num::f64_from_bits_with_nan;
+
 // m without that many of its last binary digits, nearest with halves to even. Where more than 54 go, all of m is less
 // than a half.
 #[tactic(auto, using(crate::proofs::Halves::closest_far, crate::proofs::Halves::closest_down, crate::proofs::Halves::closest_up, crate::proofs::Halves::closest_tie, crate::proofs::Halves::unit_is, crate::proofs::Halves::twice_is))]
@@ -80,15 +82,14 @@ pub fn narrow_bits(bits: u64) -> u32
 }
 
 // The micrometres of the 64-bit pattern of a voxel size in metres: one product in f64, then narrowed. None is a NaN.
-#[tactic(auto, using(crate::proofs::Product::refused, crate::proofs::Product::taken, crate::proofs::Product::product_number, crate::proofs::Product::narrowed, crate::proofs::Product::narrowed_number))]
+#[tactic(auto, using(crate::proofs::Product::product_nan, crate::proofs::Product::narrowed, crate::proofs::Product::narrowed_number))]
 pub fn to_micrometres(bits: u64) -> Option<f32>
     ensures { float_of result ≡ micrometres bits }
 {
-    // without its sign a NaN's pattern is above the infinity's; no float is made of it
-    if 0x7ff0_0000_0000_0000 < (bits & 0x7fff_ffff_ffff_ffff) {
+    let product = f64_from_bits_with_nan(bits) * 1000000.0;
+    if product.is_nan() {
         return None;
     }
-    let product = f64::from_bits(bits) * 1000000.0;
     let narrowed = narrow_bits(product.to_bits());
     Some(f32::from_bits(narrowed))
 }

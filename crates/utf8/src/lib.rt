@@ -77,10 +77,12 @@ struct Texts<'a> {
     rest: &'a [u8],
 }
 
-fn texts_of(s: &[u8]) -> Texts<'_>
-    ensures { result.rest.now ≡ s.now }
-{
-    Texts { rest: s }
+impl<'a> Texts<'a> {
+    fn new(s: &'a [u8]) -> Texts<'a>
+        ensures { result.rest.now ≡ s.now }
+    {
+        Texts { rest: s }
+    }
 }
 
 impl<'a> Iterator for Texts<'a> {
@@ -113,20 +115,20 @@ pub fn lossy_length(s: &[u8]) -> usize
     ensures { result ≡ min (length (lossy s.now)) (2 ^ 64 - 1) }
 {
     let mut total: usize = 0;
-    for text in texts_of(s) {
+    for text in Texts::new(s) {
         total = total.saturating_add(text.len());
     }
     total
 }
 
-// Fills `out` with the text.
+// Fills `out` with the text. Each piece is put at its place: of what is left of `out`, split off in a loop, nothing would be known at the end.
 #[tactic(auto, using(crate::proofs::Text::lossy_empty, crate::proofs::Text::joined_length, crate::proofs::Text::write_turn, crate::proofs::Text::write_done))]
 fn write(s: &[u8], out: &mut [u8])
     requires { length out.old ≡ length (lossy s.now) }
     ensures { out.new ≡ lossy s.now }
 {
     let mut n = 0;
-    for text in texts_of(s) {
+    for text in Texts::new(s) {
         let end = n + text.len();
         out[n..end].copy_from_slice(text);
         n = end;

@@ -17,10 +17,10 @@ use vectors::text::bytes;
 fn agrees(bytes: &[u8], text: &[u8], out: &mut [u8]) -> bool
     ensures { result ≡ true → lossy bytes.now ≡ text.now }
 {
-    match decode_lossy(bytes, out) {
-        Ok(n) => &out[..n] == text,
-        Err(_) => false,
-    }
+    let Ok(n) = decode_lossy(bytes, out) else {
+        return false;
+    };
+    &out[..n] == text
 }
 
 // Whether the line that a list begins with agrees, and the list behind it. None where it hasn't the form.

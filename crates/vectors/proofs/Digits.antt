@@ -18,14 +18,12 @@ behind_not b (x ∷ xs) e = grind (arith, common_steps)
 
 -- ---- what is read part by part
 
--- What was read so far, a part more, and the rest.
-pub part_more : {all : List ℕ × List ℕ} {now : List ℕ} (so_far part : List ℕ) (rest : List ℕ × List ℕ) → now ≡ so_far ++ part
-    → all ≡ then so_far (then part rest) → all ≡ then now rest
-part_more so_far part rest n e = rw (n, append_assoc so_far part rest.0) e
-
--- one number more
-pub numbers_more : (room left : ℕ) (text after : List ℕ) (value : ℕ) → Some (value, after) ≡ spaced text → room ≡ left + 1
-    → numbers room text ≡ then (value ∷ []) (numbers left after)
+-- The numbers so far, one more, and the rest.
+pub numbers_more : {all : List ℕ × List ℕ} {now : List ℕ} (so_far : List ℕ) (room left : ℕ) (text after : List ℕ) (value : ℕ)
+    → all ≡ then so_far (numbers room text) → Some (value, after) ≡ spaced text → now ≡ so_far ++ (value ∷ []) → room ≡ left + 1
+    → all ≡ then now (numbers left after)
 unfolding numbers
-numbers_more zero left text after value s r = absurd (omega arith)
-numbers_more (suc room) left text after value s r = let k : room ≡ left = omega arith in rw (← s, k, numbers)
+numbers_more so_far zero left text after value a s n r = absurd (omega arith)
+numbers_more so_far (suc room) left text after value a s n r =
+    let k : room ≡ left = omega arith in
+    rw (n, append_assoc so_far (value ∷ []) (numbers left after).0) (rw (← s, k, numbers) at a)

@@ -1,5 +1,5 @@
 -- Laws of the bytes of a list, read run by run. Assumes nothing.
-use Rattle.std.proofs.Common.{◌≡◌, ℕ, zero, suc, ◌+◌, ◌-◌, ◌<◌, ◌≤◌, List, [], Some, None, length, arith, refl, sym, ap, ◌∙◌}
+use Rattle.std.proofs.Common.{◌≡◌, ℕ, zero, suc, ◌+◌, ◌-◌, ◌<◌, ◌≤◌, List, [], ◌++◌, Some, None, length, arith, refl, sym, ap, ◌∙◌, append_assoc, append-nil, length-append}
 use Rattle.std.proofs.lemmas.Grind.{common_steps}
 use Rattle.std.specs.Prelude.{Option}
 use Rattle.vectors.specs.Numbers.{then}
@@ -41,20 +41,29 @@ enough (suc k) (suc j) room text h i = go (fitting room (run text)) refl (λ r f
     go None e rest = ends (suc k) room text e ∙ sym (ends (suc j) room text e)
     go (Some r) e rest = goes k room text r e ∙ ap (then r.0) (rest r (fits room (run text) r e)) ∙ sym (goes j room text r e)
 
-pub bytes_end : (room : ℕ) (text : List ℕ) → fitting room (run text) ≡ None → bytes room text ≡ ([], text)
+bytes_end : (room : ℕ) (text : List ℕ) → fitting room (run text) ≡ None → bytes room text ≡ ([], text)
 unfolding bytes
 bytes_end room text e = ends room room text e
 
-go_on : (room left : ℕ) (text part after : List ℕ) → Some (part, after) ≡ fitting room (run text) → left + length part ≡ room
-    → bytes room text ≡ then part (bytes left after)
+go_on : (room : ℕ) (text part after : List ℕ) → fitting room (run text) ≡ Some (part, after) → bytes room text ≡ then part (bytes (room - length part) after)
 unfolding bytes
-go_on zero left text part after e l = let f = fits zero (run text) (part, after) (sym e) in absurd (omega (arith, f))
-go_on (suc room) left text part after e l =
-    let f = fits (suc room) (run text) (part, after) (sym e) in
-    let k : suc room - length part ≡ left = omega arith in
-    goes room (suc room) text (part, after) (sym e) ∙ ap (λ n. then part (runs room n after)) k
-    ∙ ap (then part) (enough room left left after (omega (arith, f)) (omega arith))
+go_on zero text part after e = let f = fits zero (run text) (part, after) e in absurd (omega (arith, f))
+go_on (suc room) text part after e =
+    let f = fits (suc room) (run text) (part, after) e in
+    goes room (suc room) text (part, after) e ∙ ap (then part) (enough room (suc room - length part) (suc room - length part) after (omega (arith, f)) (omega arith))
 
-pub bytes_more : (room asked left : ℕ) (text part after : List ℕ) → Some (part, after) ≡ fitting asked (run text) → asked ≡ room
-    → left + length part ≡ room → bytes room text ≡ then part (bytes left after)
-bytes_more room asked left text part after e a l = go_on room left text part after (rw a at e) l
+-- The bytes so far, where what is left begins with no run that has room.
+pub bytes_all : {all : List ℕ × List ℕ} {so_far rest : List ℕ} (room asked : ℕ) → asked + length so_far ≡ room → fitting asked (run rest) ≡ None
+    → all ≡ then so_far (bytes (room - length so_far) rest) → (so_far, rest) ≡ all
+bytes_all {all} {so_far} {rest} room asked r e a =
+    let l : room - length so_far ≡ asked = omega arith in
+    sym (a ∙ ap (λ n. then so_far (bytes n rest)) l ∙ ap (then so_far) (bytes_end asked rest e) ∙ rw append-nil refl)
+
+-- The bytes so far, one run more, and the rest.
+pub bytes_more : {all : List ℕ × List ℕ} {now : List ℕ} (so_far part : List ℕ) (room asked : ℕ) (text after : List ℕ)
+    → all ≡ then so_far (bytes (room - length so_far) text) → asked + length so_far ≡ room → Some (part, after) ≡ fitting asked (run text)
+    → now ≡ so_far ++ part → all ≡ then now (bytes (room - length now) after)
+bytes_more {all} {now} so_far part room asked text after a r e n =
+    let l : room - length so_far ≡ asked = omega arith in
+    let k : asked - length part ≡ room - length now = rw n (omega (arith, length-append so_far part)) in
+    a ∙ ap (λ n. then so_far (bytes n text)) l ∙ ap (then so_far) (go_on asked text part after (sym e) ∙ ap (λ n. then part (bytes n after)) k) ∙ rw (n, append_assoc) refl

@@ -20,6 +20,10 @@ module _ {X : Type 0} (number : X → ℕ) where
   abbrev pub same_then_kept : ℕ → List ℕ → List X → ℕ → Bool
   same_then_kept v words lent n = same_front words lent n && kept v (drop n lent)
 
+  -- Whether all that is said is words, and then the first n of what is lent, past which everything is v.
+  abbrev pub same_result : ℕ → List ℕ → List ℕ → List X → ℕ → Bool
+  same_result v said words lent n = pointwise eqb (take (length words) said) words && same_then_kept v (drop (length words) said) lent n
+
 -- What words and bytes are.
 abbrev pub itself : ℕ → ℕ
 itself n = n

@@ -2,6 +2,7 @@
 // before each, then a colon and bytes where the case has any.
 #![tactic(auto)]
 
+pub mod asked;
 pub mod numbers;
 pub mod report;
 pub mod same;

@@ -1,10 +1,10 @@
 // Hexadecimal numbers of a list of recorded answers.
-ghost use Rattle.std.specs.Prelude.{◌≡◌, ◌<◌, ◌≤◌, length, IfSome, option_map};
+ghost use Rattle.std.specs.Prelude.{◌≡◌, ◌<◌, IfSome, option_map};
 ghost use Rattle.vectors.specs.Numbers.{digit_of, with_digit, number, spaced, numbers};
 
 use arrayvec::ArrayVec;
 
-// The value of a hexadecimal digit.
+// The value of a hexadecimal digit. std's `to_digit` and the kit's `hex` take capital letters as well, which no list has.
 #[tactic(auto, unfolding(crate::specs::Numbers::digit_of))]
 pub(crate) fn digit(b: u8) -> Option<u8>
     ensures value { result ≡ digit_of b }
@@ -29,8 +29,7 @@ fn with_digit(value: usize, b: u8) -> Option<usize>
 // The number that a text begins with, and the text behind it. A digit that would pass 64 bits ends it.
 #[tactic(auto, unfolding(crate::specs::Numbers::number, crate::specs::Numbers::digits))]
 fn number(text: &[u8]) -> Option<(usize, &[u8])>
-    ensures value { option_map (λ r. (r.0, r.1.now)) result ≡ number text.now }
-    ensures behind { IfSome result (λ r. length r.1.now ≤ length text.now) }
+    ensures { option_map (λ r. (r.0, r.1.now)) result ≡ number text.now }
 {
     let (first, mut rest) = text.split_first()?;
     let mut value = with_digit(0, *first)?;
@@ -47,17 +46,15 @@ fn number(text: &[u8]) -> Option<(usize, &[u8])>
 // The number behind a space.
 #[tactic(auto, using(crate::proofs::Digits::behind_is, crate::proofs::Digits::behind_not), unfolding(crate::specs::Numbers::spaced))]
 fn spaced(text: &[u8]) -> Option<(usize, &[u8])>
-    ensures value { option_map (λ r. (r.0, r.1.now)) result ≡ spaced text.now }
-    ensures behind { IfSome result (λ r. length r.1.now ≤ length text.now) }
+    ensures { option_map (λ r. (r.0, r.1.now)) result ≡ spaced text.now }
 {
     number(text.strip_prefix(b" ")?)
 }
 
 // The numbers that a text begins with, a space before each, as many as there is room for, and the text behind them.
-#[tactic(auto, unfolding(crate::specs::Numbers::numbers))]
+#[tactic(auto, using(crate::proofs::Digits::numbers_more), unfolding(crate::specs::Numbers::numbers))]
 pub(crate) fn numbers<const N: usize>(text: &[u8]) -> (ArrayVec<usize, N>, &[u8])
-    ensures value { (result.0.items, result.1.now) ≡ numbers N text.now }
-    ensures behind { length result.1.now ≤ length text.now }
+    ensures { (result.0.items, result.1.now) ≡ numbers N text.now }
 {
     let mut numbers = ArrayVec::new();
     let mut rest = text;

@@ -7,21 +7,10 @@ use std::io;
 use std::io::Write;
 
 // How many lines there were, and how many of them differ.
-#[derive(Clone, Copy)]
+#[derive(Clone, Copy, Default)]
 pub struct Tally {
     pub cases: usize,
     pub differ: usize,
-}
-
-impl Default for Tally {
-    ghost is_default = { λ t. (t.cases ≡ 0) × (t.differ ≡ 0) };
-
-    fn default() -> Tally {
-        Tally {
-            cases: 0,
-            differ: 0,
-        }
-    }
 }
 
 impl Tally {

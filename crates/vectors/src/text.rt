@@ -12,12 +12,9 @@ use arrayvec::ArrayVec;
 // The byte that a text begins with, and the text behind it.
 #[tactic(auto, unfolding(crate::specs::Lines::pair))]
 fn pair(text: &[u8]) -> Option<(u8, &[u8])>
-    ensures value { option_map (λ r. (r.0, r.1.now)) result ≡ pair text.now }
-    ensures behind { IfSome result (λ r. length r.1.now ≤ length text.now) }
+    ensures { option_map (λ r. (r.0, r.1.now)) result ≡ pair text.now }
 {
-    let [high, low, rest @ ..] = text else {
-        return None;
-    };
+    let ([high, low], rest) = text.split_first_chunk::<2>()?;
     Some((digit(*high)? * 16 + digit(*low)?, rest))
 }
 
@@ -31,8 +28,7 @@ struct Repeated {
 // The run that a text begins with, and the text behind it.
 #[tactic(auto, using(crate::proofs::Digits::behind_is, crate::proofs::Digits::behind_not), unfolding(crate::specs::Lines::run))]
 fn run(text: &[u8]) -> Option<(Repeated, &[u8])>
-    ensures value { option_map (λ r. (replicate r.0.times r.0.byte, r.1.now)) result ≡ run text.now }
-    ensures behind { IfSome result (λ r. length r.1.now ≤ length text.now) }
+    ensures { option_map (λ r. (replicate r.0.times r.0.byte, r.1.now)) result ≡ run text.now }
 {
     match text.strip_prefix(b"*") {
         Some(rest) => {
@@ -49,8 +45,7 @@ fn run(text: &[u8]) -> Option<(Repeated, &[u8])>
 
 // The same, where it has a byte and there is room for it.
 fn fitting(text: &[u8], room: usize) -> Option<(Repeated, &[u8])>
-    ensures value { option_map (λ r. (replicate r.0.times r.0.byte, r.1.now)) result ≡ fitting room (run text.now) }
-    ensures behind { IfSome result (λ r. length r.1.now ≤ length text.now) }
+    ensures { option_map (λ r. (replicate r.0.times r.0.byte, r.1.now)) result ≡ fitting room (run text.now) }
 {
     let (run, rest) = run(text)?;
     if run.times == 0 || room < usize::from(run.times) {
@@ -70,14 +65,14 @@ fn push_run<const N: usize>(bytes: &mut ArrayVec<u8, N>, run: Repeated)
 }
 
 // The bytes that a text begins with, run behind run as long as there is room, and the text behind them.
-#[tactic(auto, using(crate::proofs::Runs::bytes_end, std::proofs::lemmas::Grind::common_steps))]
+#[tactic(auto, using(crate::proofs::Runs::bytes_all, crate::proofs::Runs::bytes_more, crate::proofs::Left::all_left))]
 pub fn bytes<const N: usize>(text: &[u8]) -> (ArrayVec<u8, N>, &[u8])
     ensures value { (result.0.items, result.1.now) ≡ bytes N text.now }
     ensures behind { length result.1.now ≤ length text.now }
 {
     let mut bytes = ArrayVec::new();
     let mut rest = text;
-    while let Some((run, after)) = fitting(rest, N - bytes.len()) {
+    while let Some((run, after)) = fitting(rest, bytes.remaining_capacity()) {
         push_run(&mut bytes, run);
         rest = after;
     }
@@ -87,8 +82,7 @@ pub fn bytes<const N: usize>(text: &[u8]) -> (ArrayVec<u8, N>, &[u8])
 // The bytes behind a colon; none where there is no colon.
 #[tactic(auto, using(crate::proofs::Digits::behind_is, crate::proofs::Digits::behind_not), unfolding(crate::specs::Lines::tail))]
 fn tail<const N: usize>(text: &[u8]) -> (ArrayVec<u8, N>, &[u8])
-    ensures value { (result.0.items, result.1.now) ≡ tail N text.now }
-    ensures behind { length result.1.now ≤ length text.now }
+    ensures { (result.0.items, result.1.now) ≡ tail N text.now }
 {
     match text.strip_prefix(b":") {
         Some(rest) => bytes(rest),
@@ -106,8 +100,7 @@ pub struct Said<const N: usize, const M: usize> {
 // What the line says whose letter stands before a text, and the text behind the line. None where it hasn't the form, or has no room.
 #[tactic(auto, using(crate::proofs::Digits::behind_is, crate::proofs::Digits::behind_not), unfolding(crate::specs::Lines::said))]
 fn says<const N: usize, const M: usize>(text: &[u8]) -> Option<(Said<N, M>, &[u8])>
-    ensures value { option_map (λ r. (says_of r.0, r.1.now)) result ≡ said N M text.now }
-    ensures behind { IfSome result (λ r. length r.1.now ≤ length text.now) }
+    ensures { option_map (λ r. (says_of r.0, r.1.now)) result ≡ said N M text.now }
 {
     let (numbers, rest) = numbers(text);
     let (bytes, rest) = tail(rest);
@@ -129,10 +122,10 @@ impl<const N: usize, const M: usize> Line<N, M> {
         ensures none { self.now.said ≡ None → result ≡ false }
         ensures some { IfSome self.now.said (λ s. (n : _) × (b : _) × (n.now ≡ s.numbers.items) × (b.now ≡ s.bytes.items) × F.post test n b result) }
     {
-        match &self.said {
-            Some(said) => test(said.numbers.as_slice(), said.bytes.as_slice()),
-            None => false,
-        }
+        let Some(said) = &self.said else {
+            return false;
+        };
+        test(said.numbers.as_slice(), said.bytes.as_slice())
     }
 }
 
@@ -140,13 +133,10 @@ impl<const N: usize, const M: usize> Line<N, M> {
 #[derive(Drop)]
 pub struct Lines<'a, const N: usize, const M: usize> {
     text: &'a [u8],
-    // so that a line, which `next` gives by value, has a size
-    ghost small: { (N < 2 ^ 32) × (M < 2 ^ 32) },
 }
 
 impl<'a, const N: usize, const M: usize> Lines<'a, N, M> {
     pub fn new(text: &'a [u8]) -> Lines<'a, N, M>
-        requires { (N < 2 ^ 32) × (M < 2 ^ 32) }
         ensures { result.text.now ≡ text.now }
     {
         Lines { text }
@@ -160,7 +150,12 @@ impl<'a, const N: usize, const M: usize> Iterator for Lines<'a, N, M> {
 
     ghost remaining = { λ s. at_most (length s.text.now) };
 
-    #[tactic(auto, unfolding(crate::specs::Lines::line))]
+    // A line has a letter at least.
+    fn size_hint(&self) -> (usize, Option<usize>) {
+        (0, Some(self.text.len()))
+    }
+
+    #[tactic(auto, using(crate::proofs::Left::line_left), unfolding(crate::specs::Lines::line))]
     fn next(&mut self) -> Option<Line<N, M>> {
         let (letter, text) = self.text.split_first()?;
         let letter = *letter;

