@@ -3,7 +3,7 @@ use native.Mathlib.Nat.{zero-mul}
 use mathlib.Core.Path.{refl, sym, ap, ◌∙◌}
 use mathlib.Core.List.{reverse}
 use Rattle.lsm_format.specs.Picture.{span}
-use Rattle.lsm_region.proofs.Filling.{turn_step, parts_done}
+use Rattle.lsm_region.proofs.Filling.{turn_step}
 use Rattle.lsm_region.proofs.copier.turn.Goals as goal
 
 pub loop-q-init : goal.loop-q-init
@@ -15,7 +15,3 @@ loop-q-preserved g c =
     let turned = c.copy_from_slice-in-loop-q.ensures.after ∙ c.reverse.ensures.after ∙ ap reverse c.copy_from_slice.ensures.after in
     let t = turn_step _ _ _ _ _ _ c.loop-q.auto.out (sym c.requires.whole) c.loop-q-test.true c.loop-q.invariant.0 turned c.loop-q.invariant.1 in
     (t.1, t.0)
-
-pub returns : goal.returns
-returns g c =
-    parts_done _ _ _ _ _ _ c.loop-q.auto.q-end c.loop-q-test.false (c.loop-q.auto.out ∙ sym c.requires.whole) c.loop-q.invariant.1
