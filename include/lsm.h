@@ -41,7 +41,7 @@ extern "C" {
  *   2 to 6   time points, channels, depth, height, width
  *   7        scenes
  *   8        pages of a time point
- *   9        strips of a channel on a page
+ *   9        strips of a channel on a page; where word 18 is 1, of a page
  *   10       pixel size: 0 none, 1 stated
  *   11, 12   its X and Y in micrometres, as the bits of a 32-bit float
  *   13       Z step: 0 used, 1 none, 2 not used since it is a placeholder, 3 not used since it is too large
@@ -49,16 +49,22 @@ extern "C" {
  *   15       channel block: 0 none, 1 there
  *   16       its place in the file
  *   17       time points of a scene, by which pages are counted
+ *   18       0 where each strip has one channel, 1 where the channels are interleaved
  *
  * The picture at scene, t, c, z stands on page (scene x word 17 + t) x word 8 + z of the table, counted from 0. Word 2 is what t is held
  * to; lsm_open gives it and word 17 alike.
  *
+ * Where word 18 is 0, a page of the table has word 9 strips of channel 0, then as many of channel 1, and so on. Where it is 1, a page has
+ * word 9 strips, and all of them are every channel's: one after another they hold the page pixel by pixel, row by row, and of each pixel a
+ * sample of channel 0, then one of channel 1, and so on. A strip may end anywhere, also inside a sample. lsm_open gives 1 only where there
+ * are several channels.
+ *
  * Words of what is absent are 0 in a description that lsm_open gives, and aren't looked at in one that is handed in: words 11 to 14
  * without a pixel size, word 14 without a Z step, word 16 without a channel block. A description may be kept, changed, and handed in
- * with any file. Words with an order, kind or choice outside its numbers, or with a float above 2^32 - 1 or a NaN's bits, are no
- * description: the call refuses them with 2 before it looks at anything else.
+ * with any file. Words with an order, kind or choice outside its numbers (words 0, 1, 10, 13, 15 and 18), or with a float above 2^32 - 1
+ * or a NaN's bits, are no description: the call refuses them with 2 before it looks at anything else.
  */
-#define LSM_DESCRIPTION_WORDS 18
+#define LSM_DESCRIPTION_WORDS 19
 
 /* The words of an answer: of lsm_open, of lsm_channel, of lsm_plane and lsm_region. */
 #define LSM_OPEN_WORDS (3 + LSM_DESCRIPTION_WORDS)
@@ -82,7 +88,9 @@ size_t lsm_channel(const uint8_t *file, size_t file_len, const size_t descriptio
                    uint8_t *name, size_t name_len, size_t answer[LSM_CHANNEL_WORDS]);
 
 /* A whole picture of a channel, with the description and the table that lsm_open gave of the file. Its samples are written to `out`,
- * row by row, little-endian whatever the file's order.
+ * row by row, little-endian whatever the file's order. The strips that it is read from must have as many bytes as it has itself. Where
+ * channels are interleaved, the page's strips must have as many as the pictures of all channels together, and `out` takes those of the one
+ * channel that is asked for.
  *
  * Accepted: answer[1] is the height, answer[2] the width, answer[3] how many bytes were written, answer[4] is 0.
  */
@@ -91,8 +99,9 @@ size_t lsm_plane(const uint8_t *file, size_t file_len, const size_t description[
                  size_t answer[LSM_PICTURE_WORDS]);
 
 /* A rectangle of a picture: its left column x and top row y, w columns and h rows. The picture may be one that is too large for
- * lsm_plane. The same is written and answered as by lsm_plane, with h and w as height and width; a rectangle of width or height 0 is
- * accepted, and nothing is written.
+ * lsm_plane, unless its channels are interleaved: a rectangle of such a picture is held to all that lsm_plane asks of the whole one, so one
+ * above the limit gives none. The same is written and answered as by lsm_plane, with h and w as height and width; a rectangle of width or
+ * height 0 is accepted, and nothing is written.
  */
 size_t lsm_region(const uint8_t *file, size_t file_len, const size_t description[LSM_DESCRIPTION_WORDS], const size_t *table,
                   size_t table_len, size_t scene, size_t t, size_t c, size_t z, size_t x, size_t y, size_t w, size_t h,

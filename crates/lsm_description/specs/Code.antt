@@ -12,6 +12,7 @@ description_of d =
       kind = kind_of d.dtype;
       dims = dims_of d.dims;
       layout = layout_of d.layout;
+      interleaved = d.interleaved;
       strips_per_channel = d.strips_per_channel;
       calibration = calibration_of d.calibration;
       channel_block = d.channel_colors_offset;

@@ -4,12 +4,13 @@
 ghost use Rattle.std.specs.Prelude.{◌≡◌, not, ◌||◌, List, ℕ, ◌<◌, max, leb};
 ghost use Rattle.lsm_format.specs.Code.{order_of, kind_of, answer_of, answer_by};
 ghost use Rattle.lsm_format.specs.Numbers.{Order};
-ghost use Rattle.lsm_format.specs.Open.{sample_kind, agreement, layout_for};
+ghost use Rattle.lsm_format.specs.Open.{sample_kind, component_planes, agreement, layout_for};
 ghost use Rattle.lsm_format.specs.Open as Open;
 ghost use Rattle.lsm_positions.specs.Code.{layout_of};
 ghost use Rattle.lsm_cz_info.specs.Code.{info_of};
 ghost use Rattle.lsm_channel_colors.specs.Code.{meta_of, Looked};
 ghost use Rattle.lsm_directory.specs.Code.{directory_of};
+ghost use Rattle.lsm_format.specs.Picture.{pixel_samples};
 ghost use Rattle.lsm_description.specs.Code.{description_of};
 
 use calibration::Calibration;
@@ -28,9 +29,28 @@ pub struct Description {
     // Every scene has these dimensions.
     pub dims: Dims5,
     pub layout: LsmLayout,
+    // Whether all channels of a page share its strips, which then hold them sample by sample.
+    pub interleaved: bool,
+    // The strips of a component plane: a channel's, or, interleaved, the page's.
     pub strips_per_channel: usize,
     pub calibration: Option<Calibration>,
     pub channel_colors_offset: Option<usize>,
+}
+
+impl Description {
+    // The component planes that share out a page's strips.
+    pub fn component_planes(self) -> usize
+        ensures { result ≡ component_planes self.interleaved self.dims.c }
+    {
+        component_planes(self.interleaved, self.dims.c)
+    }
+
+    // The samples that a pixel has in a component plane.
+    pub fn pixel_samples(self) -> usize
+        ensures { result ≡ pixel_samples (description_of self) }
+    {
+        if self.interleaved { self.dims.c } else { 1 }
+    }
 }
 
 // The colour and name of a channel. The name's text is written to `name`; where it has no room there, nothing is.
@@ -72,11 +92,18 @@ fn at_least_one(n: u32) -> usize
     n.max(1) as usize
 }
 
-// Whether several channels share one plane of samples, which this reader doesn't take.
+// Whether the channels of a page share one component plane. One channel has a plane of its own, whatever the file says of it.
 fn is_interleaved(channels: usize, planar: bool) -> bool
     ensures { result ≡ not (leb channels 1 || planar) }
 {
     1 < channels && !planar
+}
+
+// The component planes that so many channels make.
+fn component_planes(interleaved: bool, channels: usize) -> usize
+    ensures { result ≡ component_planes interleaved channels }
+{
+    if interleaved { 1 } else { channels }
 }
 
 // Whether the first full page agrees with the CZ block.
@@ -92,10 +119,8 @@ fn check_agreement(page: Directory, info: CzInfo) -> Result<(), Refusal>
     if info.dim_channels as usize != channels {
         return Err(Refusal::Decode);
     }
-    if is_interleaved(channels, page.is_planar()) {
-        return Err(Refusal::Unsupported);
-    }
-    if strips == 0 || strips % channels != 0 {
+    let interleaved = is_interleaved(channels, page.is_planar());
+    if strips == 0 || strips % component_planes(interleaved, channels) != 0 {
         return Err(Refusal::Decode);
     }
     Ok(())
@@ -129,6 +154,7 @@ pub fn describe(
     check_agreement(page, info)?;
     let layout = layout_for(info, pages)?;
     let channels = at_least_one(page.samples);
+    let interleaved = is_interleaved(channels, page.is_planar());
     Ok(Description {
         endian: e,
         dtype,
@@ -140,7 +166,8 @@ pub fn describe(
             x: page.width as usize,
         },
         layout,
-        strips_per_channel: page.offsets.count / channels,
+        interleaved,
+        strips_per_channel: page.offsets.count / component_planes(interleaved, channels),
         calibration: info.calibration,
         channel_colors_offset: info.channel_colors_offset,
     })

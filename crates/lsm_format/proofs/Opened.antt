@@ -17,7 +17,7 @@ use Rattle.lsm_format.specs.Sizes.{Kind}
 use Rattle.lsm_format.specs.Scenes.{Layout, layout, pages, pages_expected}
 use Rattle.lsm_format.specs.CzInfo.{CzInfo}
 use Rattle.lsm_format.specs.Directory.{Directory}
-use Rattle.lsm_format.specs.Open.{Walk, Description, Opened, channels, agreement, time_points, planes, layout_for, describe, describe_walk, table_words, read}
+use Rattle.lsm_format.specs.Open.{Walk, Description, Opened, page_planes, agreement, time_points, planes, layout_for, describe, describe_walk, table_words, read}
 use Rattle.lsm_format.specs.Picture.{strips_per_page}
 use Rattle.lsm_format.proofs.Words.{word_some}
 use Rattle.lsm_format.proofs.Accepting.{Accepting, accepting_bind, accepting_then, accepting_need, accepting_given, both_hold}
@@ -31,27 +31,27 @@ pub record Fits (d : Description) (table : List ℕ) : Type 0 where
   pub strips : 0 < strips_per_page d
   pub words : length table ≡ pages d.layout * strips_per_page d * 2
 
--- "strips per channel": the strips of a page are shared out evenly
+-- "strips per channel": the strips of a page are shared out evenly to its component planes
 Shares : ℕ → ℕ → Type 0
-Shares n channels = (not (eqb n 0) && eqb (n % channels) 0) ≡ true
+Shares n planes = (not (eqb n 0) && eqb (n % planes) 0) ≡ true
 
-shared : (n channels : ℕ) → Shares n channels → channels * (n / channels) ≡ n
+shared : (n planes : ℕ) → Shares n planes → planes * (n / planes) ≡ n
 unfolding Shares
-shared n channels t =
-    let even : n % channels ≡ 0 = eqb-true _ _ (both_hold (not (eqb n 0)) (eqb (n % channels) 0) t).1 in
-    omega (arith, div-add-mod' n channels, mul_comm channels (n / channels))
+shared n planes t =
+    let even : n % planes ≡ 0 = eqb-true _ _ (both_hold (not (eqb n 0)) (eqb (n % planes) 0) t).1 in
+    omega (arith, div-add-mod' n planes, mul_comm planes (n / planes))
 
-shares_some : (n channels : ℕ) → Shares n channels → 0 < n
+shares_some : (n planes : ℕ) → Shares n planes → 0 < n
 unfolding Shares
-shares_some n channels t =
-    let some : n ≡ 0 → ⊥ = eqb-false n 0 (not-true (eqb n 0) (both_hold (not (eqb n 0)) (eqb (n % channels) 0) t).0) in
+shares_some n planes t =
+    let some : n ≡ 0 → ⊥ = eqb-false n 0 (not-true (eqb n 0) (both_hold (not (eqb n 0)) (eqb (n % planes) 0) t).0) in
     omega arith
 
 agreement_shares : (p : Directory) (i : CzInfo) →
-    Accepting (λ (u : Unit {0}). Shares (length p.offsets) (channels p)) (agreement p i)
+    Accepting (λ (u : Unit {0}). Shares (length p.offsets) (page_planes p)) (agreement p i)
 unfolding agreement Shares
 agreement_shares p i =
-    accepting_then _ _ _ (λ _. accepting_then _ _ _ (λ _. accepting_then _ _ _ (λ _. accepting_need decode _)))
+    accepting_then _ _ _ (λ _. accepting_then _ _ _ (λ _. accepting_need decode _))
 
 -- "layout, page count"
 layout_sizes : (p m : ℤ) (t depth : ℕ) → Accepting (λ (l : Layout). (l.t ≡ t) × (l.depth ≡ depth)) (layout p m t depth)
@@ -72,8 +72,8 @@ unfolding describe Accepting
 describe_fits o k p n i table e =
     accepting_bind _ _ _ _ (agreement_shares p i) (λ _ s.
     accepting_bind _ _ _ _ (layout_pages i n) (λ l h.
-    let all = shared (length p.offsets) (channels p) s in
-    record { long = sym h.0.0; deep = sym h.0.1; strips = rw all (shares_some (length p.offsets) (channels p) s); words = rw (all, ← h.1) e }))
+    let all = shared (length p.offsets) (page_planes p) s in
+    record { long = sym h.0.0; deep = sym h.0.1; strips = rw all (shares_some (length p.offsets) (page_planes p) s); words = rw (all, ← h.1) e }))
 
 walk_fits : (o : Order) (f : List ℕ) (w : Walk) → Even w.first w.pages →
     Accepting (λ (d : Description). Fits d (table_words w.pages)) (describe_walk o f w)

@@ -16,8 +16,8 @@ use Rattle.lsm_format.specs.Words.{word}
 use Rattle.lsm_format.specs.Sizes.{Kind, picture_limit, picture_bytes, unlimited_size, picture_size}
 use Rattle.lsm_format.specs.Rectangle.{Dims, Rect, Coordinate, no_picture, coordinates, within, rectangle}
 use Rattle.lsm_format.specs.Scenes.{page_of}
-use Rattle.lsm_format.specs.Open.{Description}
-use Rattle.lsm_format.specs.Picture.{Picture, Strips, offset_of, count_of, total, place, lies, inside, in_turn, span, bytes, picture, each_sample, window, strips_per_page, has_page, strips_on, channel_strips, scene_there, coordinate_there, plane_strips}
+use Rattle.lsm_format.specs.Open.{Description, component_planes}
+use Rattle.lsm_format.specs.Picture.{Picture, Strips, offset_of, count_of, total, place, lies, inside, in_turn, span, bytes, each_sample, window, strips_per_page, plane_of, samples_together, own_sample, pixel_samples, has_page, strips_on, channel_strips, scene_there, coordinate_there, joined_size, plane_strips}
 use Rattle.lsm_format.proofs.Words.{word_fits, word_some}
 use Rattle.lsm_format.proofs.Accepting.{both_hold}
 use Rattle.lsm_format.proofs.Apart.{no_case}
@@ -121,19 +121,9 @@ bytes_run f a (suc n) l q e h =
 abbrev pub held : List ℕ → ℕ → ℕ
 held l k = get_or l k 0
 
-pub picture_length_lem : (f : ℕ → ℕ) (width s row column : ℕ) → length (picture f width s row column) ≡ s
-unfolding picture
-picture_length_lem f width s row column = bytes_length f ((row * width + column) * s) s
-
--- the rectangle of a picture that is stored row by row: a run of bytes for each row
-pub window_rows : (f : ℕ → ℕ) (width s : ℕ) (r : Rect)
-    → window (picture f width s) r ≡ span r.y r.h (λ i. bytes f (i * (width * s) + r.x * s) (r.w * s))
-unfolding window picture
-window_rows f width s r =
-    span_cong r.y r.h (λ i. span r.x r.w (λ c. bytes f ((i * width + c) * s) s)) (λ i. bytes f (i * (width * s) + r.x * s) (r.w * s))
-    (λ i l u.
-    let q : (i * width + r.x) * s ≡ i * (width * s) + r.x * s = rw (add-mul, mul_assoc) in
-    tile f (i * width) r.x r.w s ∙ ap (λ (k : ℕ). bytes f k (r.w * s)) q)
+-- Bytes as a picture of the given width, with s bytes to a sample: "Samples lie row by row".
+unfoldable pub picture : (ℕ → ℕ) → ℕ → ℕ → Picture
+picture f width s row column = bytes f ((row * width + column) * s) s
 
 -- every sample of the rectangle has s bytes
 abbrev pub Even : Picture → ℕ → Rect → Type 0
@@ -187,7 +177,7 @@ window_moved p x y r =
 span_last : (n : ℕ) (g : ℕ → List ℕ) → span 0 (suc n) g ≡ span 0 n g ++ g n
 span_last n g = rw (← add-one, span_snoc 0 n g, zero-add)
 
-span_grid : (w h : ℕ) (g : ℕ → List ℕ) → span 0 (h * w) g ≡ span 0 h (λ i. span 0 w (λ j. g (i * w + j)))
+pub span_grid : (w h : ℕ) (g : ℕ → List ℕ) → span 0 (h * w) g ≡ span 0 h (λ i. span 0 w (λ j. g (i * w + j)))
 unfolding span
 span_grid w zero g = rw zero-mul
 span_grid w (suc h) g =
@@ -347,6 +337,18 @@ module _ (w h : ℕ) (k : Kind) where
       let l = leb-true a picture_limit (need_true _ (leb a picture_limit) u e₃) in
       (sym q ∙ v.0, omega arith)))
 
+-- the bytes of the strips that channels share
+module _ (d : Description) (size : ℕ) where
+  pub joined_size_fits : pixel_samples d * size < 2 ^ 64 → joined_size d size ≡ accepted (pixel_samples d * size)
+  unfolding joined_size
+  joined_size_fits h = rw (word_fits h)
+
+  pub joined_size_is : (n : ℕ) → joined_size d size ≡ accepted n → (n ≡ pixel_samples d * size) × (n < 2 ^ 64)
+  unfolding joined_size
+  joined_size_is n e =
+      let w = word_some (pixel_samples d * size) n (given_some _ (word (pixel_samples d * size)) n e) in
+      (w.0, rw w.0 w.1)
+
 -- ---- coordinates and rectangles that are accepted
 
 pub coordinate_channel : (d : Description) (co : Coordinate) (u : Unit {0}) → coordinate_there d co ≡ accepted u → co.c < d.dims.c
@@ -392,11 +394,21 @@ page_missing d words page h =
     ap (λ (b : Bool). not (eqb (strips_per_page d) 0) && b) (lt-leb (2 * ((page + 1) * strips_per_page d)) words (omega arith))
     ∙ and-false (not (eqb (strips_per_page d) 0))
 
+-- the component plane that has a channel is one of the page's, and the channel's sample one of a pixel's there
+pub plane_less : (b : Bool) (c n : ℕ) → c < n → plane_of b c < component_planes b n
+plane_less true c n h = omega arith
+plane_less false c n h = h
+
+pub own_less : (b : Bool) (c n : ℕ) → c < n → own_sample b c < samples_together b n
+own_less true c n h = h
+own_less false c n h = omega arith
+
 -- a channel's strips are in the page
 pub channel_in_lem : (d : Description) (words page c : ℕ) → c < d.dims.c → 2 * (page * strips_per_page d + strips_per_page d) ≤ words
     → 2 * ((strips_on d page c).first + (strips_on d page c).count) ≤ words
 channel_in_lem d words page c h l =
-    omega (arith, suc-mul c d.strips_per_channel, mul-le-mul_right d.strips_per_channel h)
+    let plane : ℕ = plane_of d.interleaved c in
+    omega (arith, suc-mul plane d.strips_per_channel, mul-le-mul_right d.strips_per_channel (plane_less d.interleaved c d.dims.c h))
 
 module _ (d : Description) (words : ℕ) (co : Coordinate) where
   pub channel_nowhere : page_of d.layout co ≡ None → refused (no_picture co) ≡ channel_strips d words co
@@ -430,6 +442,10 @@ module _ (d : Description) (words : ℕ) (co : Coordinate) where
       channel_page s e
       (λ page p there q. rw (sym q) (channel_in_lem d words page co.c h (page_there d words page there).1))
 
+  -- and its sample is one of a pixel's there
+  pub channel_own : (s : Strips) → channel_strips d words co ≡ accepted s → co.c < d.dims.c → s.sample < pixel_samples d
+  channel_own s e h = channel_page s e (λ page p there q. rw (sym q) (own_less d.interleaved co.c d.dims.c h))
+
 -- ---- plane's strips
 
 module _ (d : Description) (t : List ℕ) (len : ℕ) (co : Coordinate) where
@@ -438,16 +454,15 @@ module _ (d : Description) (t : List ℕ) (len : ℕ) (co : Coordinate) where
   unfolding plane_strips bind
   strips_oversized row e = rw e
 
-  pub strips_nowhere : (size : ℕ) (row : List ℕ) → picture_size d.dims.x d.dims.y d.kind ≡ accepted size
-      → channel_strips d (length t) co ≡ refused row → refused row ≡ plane_strips d t len co
-  unfolding plane_strips bind
-  strips_nowhere size row e h = rw (e, h)
+  module _ (size all : ℕ) (e : picture_size d.dims.x d.dims.y d.kind ≡ accepted size) (a : joined_size d size ≡ accepted all) where
+    pub strips_nowhere : (row : List ℕ) → channel_strips d (length t) co ≡ refused row → refused row ≡ plane_strips d t len co
+    unfolding plane_strips bind
+    strips_nowhere row h = rw (e, a, h)
 
-  pub strips_judged : (size : ℕ) (s : Strips) → picture_size d.dims.x d.dims.y d.kind ≡ accepted size
-      → channel_strips d (length t) co ≡ accepted s
-      → plane_strips d t len co ≡ bind (in_turn decode decode t len s.first s.count size) (λ _. accepted s)
-  unfolding plane_strips bind
-  strips_judged size s e h = rw (e, h)
+    pub strips_judged : (s : Strips) → channel_strips d (length t) co ≡ accepted s
+        → plane_strips d t len co ≡ bind (in_turn decode decode t len s.first s.count all) (λ _. accepted s)
+    unfolding plane_strips bind
+    strips_judged s h = rw (e, a, h)
 
 -- what strips in turn tell where they are accepted
 pub turn_accepted : (outside miscounted t : List ℕ) (len i n left : ℕ) (u : Unit {0}) → in_turn outside miscounted t len i n left ≡ accepted u
@@ -469,7 +484,8 @@ pub record PlaneAccepted (d : Description) (t : List ℕ) (len : ℕ) (co : Coor
   pub small : picture_bytes d.dims.x d.dims.y d.kind ≤ picture_limit
   pub channel : channel_strips d (length t) co ≡ accepted s
   pub within : inside t len s.first s.count ≡ true
-  pub summed : total t s.first s.count ≡ picture_bytes d.dims.x d.dims.y d.kind
+  pub fits : pixel_samples d * picture_bytes d.dims.x d.dims.y d.kind < 2 ^ 64
+  pub summed : total t s.first s.count ≡ pixel_samples d * picture_bytes d.dims.x d.dims.y d.kind
 
 pub plane_accepted : (d : Description) (t : List ℕ) (len : ℕ) (co : Coordinate) (s : Strips) → plane_strips d t len co ≡ accepted s
     → PlaneAccepted d t len co s
@@ -477,17 +493,21 @@ unfolding plane_strips
 plane_accepted d t len co s e =
     bind_then (picture_size d.dims.x d.dims.y d.kind) _ s e
     (λ n e₁ e₂.
-    bind_then (channel_strips d (length t) co) _ s e₂
-    (λ p e₃ e₄.
-    bind_then (in_turn decode decode t len p.first p.count n) _ s e₄
-    (λ u e₅ e₆.
+    bind_then (joined_size d n) _ s e₂
+    (λ all e₃ e₄.
+    bind_then (channel_strips d (length t) co) _ s e₄
+    (λ p e₅ e₆.
+    bind_then (in_turn decode decode t len p.first p.count all) _ s e₆
+    (λ u e₇ e₈.
     let q : p ≡ s = cc in
     let z = size_is d.dims.x d.dims.y d.kind n e₁ in
-    let all = turn_accepted decode decode t len p.first p.count n u e₅ in
+    let j = joined_size_is d n all e₃ in
+    let turned = turn_accepted decode decode t len p.first p.count all u e₇ in
     record {
       size = rw (sym z.0) e₁;
       small = rw (sym z.0) z.1;
-      channel = rw q at e₃;
-      within = rw q at all.0;
-      summed = rw (sym z.0, sym q) all.1;
-    })))
+      channel = rw q at e₅;
+      within = rw q at turned.0;
+      fits = rw (sym z.0, sym j.0) j.1;
+      summed = rw (sym z.0, sym j.0, sym q) turned.1;
+    }))))

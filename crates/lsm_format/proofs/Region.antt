@@ -1,6 +1,6 @@
 -- Laws of region: where it is decided as plane is, and that its answer is then a part of plane's. Assumes nothing.
 use Prim.Native.Nat.{ℕ, zero, suc, ◌+◌, ◌-◌, ◌*◌, ◌%◌, ◌^◌, ◌<◌, ◌≤◌}
-use native.Mathlib.Nat.{zero-mul, add-mul, suc-mul, mul_comm, mul_assoc, mul-le-mul, mul-le-mul_right, div-add-mod', not-suc-le-zero}
+use native.Mathlib.Nat.{zero-mul, one-mul, add-mul, suc-mul, mul_comm, mul_assoc, mul-le-mul, mul-le-mul_right, div-add-mod', not-suc-le-zero}
 use native.Mathlib.Omega.{arith}
 use mathlib.Core.Path.{◌≡◌, refl, sym, ap, ◌∙◌}
 use mathlib.Core.Bool.{Bool, true, false, not, ◌&&◌, ◌||◌}
@@ -15,8 +15,8 @@ use Rattle.lsm_format.specs.Sizes.{Kind, sample_size, picture_limit, picture_byt
 use Rattle.lsm_format.specs.Rectangle.{Rect, Coordinate, rectangle, is_empty}
 use Rattle.lsm_format.specs.Scenes.{pages, page_of}
 use Rattle.lsm_format.specs.Open.{Description}
-use Rattle.lsm_format.specs.Picture.{Strips, Samples, count_of, total, inside, stored, picture, to_little, each_sample, has_page, strips_on, channel_strips, coordinate_there, plane_strips, plane_from, channel_picture, samples_in, whole_picture, plane, row_bytes, whole_strips, rows_in, whole_channel, whole_rows_of, whole_channels, whole_page, whole_pages, whole_rows, window_end, row_strips, window_strips, strips_by, region_strips, no_strips, filled_strips, region_from, region}
-use Rattle.lsm_format.proofs.Picture.{held, Even, picture_length_lem, window_length, window_at, bind_then, need_true, size_is, size_fits, rectangle_within, channel_page, turn_total, strips_nowhere, plane_accepted}
+use Rattle.lsm_format.specs.Picture.{Strips, Samples, count_of, total, inside, stored, bytes, to_little, each_sample, pixel_samples, has_page, strips_on, channel_strips, coordinate_there, joined_size, plane_strips, plane_from, sample_place, stored_picture, channel_picture, samples_in, whole_picture, plane, row_bytes, whole_strips, rows_in, whole_channel, whole_rows_of, whole_channels, whole_page, whole_pages, whole_rows, window_end, row_strips, window_strips, strips_by, region_strips, no_strips, filled_strips, region_from, region}
+use Rattle.lsm_format.proofs.Picture.{held, picture, Even, bytes_length, window_length, window_at, bind_then, need_true, size_is, size_fits, joined_size_fits, coordinate_channel, rectangle_within, channel_page, channel_own, turn_total, strips_nowhere, plane_accepted}
 use Rattle.lsm_format.proofs.Accepting.{both_hold}
 use Rattle.lsm_format.proofs.Apart.{no_case}
 
@@ -91,14 +91,43 @@ whole_tested d t page c e l h =
     let channels = (both_hold (has_page d (length t) page) (whole_channels d t page d.dims.c) one).1 in
     all_tell (whole_channels d t page) (λ k. whole_channel d t (strips_on d page k)) (λ k. refl) c d.dims.c h channels
 
--- a rectangle in the picture ends where the picture does, or before
-pub end_inside : (d : Description) (r : Rect) → r.x + r.w ≤ d.dims.x → r.y + r.h ≤ d.dims.y → 0 < r.h
-    → window_end d r ≤ d.dims.y * row_bytes d
-end_inside d r a b h =
-    let s : ℕ = sample_size d.kind in
-    let last : ℕ = r.y + r.h - 1 in
-    let u : suc last ≤ d.dims.y = omega arith in
-    omega (arith, mul-le-mul_right s a, suc-mul last (row_bytes d), mul-le-mul_right (row_bytes d) u)
+-- a sample of the picture ends where the strips do that make it, or before
+sample_inside : (d : Description) (s : Strips) (row column : ℕ) → row < d.dims.y → column < d.dims.x → s.sample < pixel_samples d
+    → sample_place d s row column + sample_size d.kind ≤ pixel_samples d * picture_bytes d.dims.x d.dims.y d.kind
+sample_inside d s row column a b c =
+    let m : ℕ = pixel_samples d in
+    let size : ℕ = sample_size d.kind in
+    let pixel : ℕ = row * d.dims.x + column in
+    let pixels : suc pixel ≤ d.dims.y * d.dims.x = omega (arith, suc-mul row d.dims.x, mul-le-mul_right d.dims.x a) in
+    let samples : suc (pixel * m + s.sample) ≤ d.dims.y * d.dims.x * m = omega (arith, suc-mul pixel m, mul-le-mul_right m pixels) in
+    let all : d.dims.y * d.dims.x * m * size ≡ m * (d.dims.x * d.dims.y * size) =
+    rw (mul_comm d.dims.y d.dims.x, mul_comm (d.dims.x * d.dims.y) m, mul_assoc) in
+    omega (arith, suc-mul (pixel * m + s.sample) size, mul-le-mul_right size samples, all)
+
+-- and so does a rectangle in the picture
+pub end_inside : (d : Description) (s : Strips) (r : Rect) → r.x + r.w ≤ d.dims.x → r.y + r.h ≤ d.dims.y → 0 < r.w → 0 < r.h
+    → s.sample < pixel_samples d → window_end d s r ≤ pixel_samples d * picture_bytes d.dims.x d.dims.y d.kind
+end_inside d s r a b w h c = sample_inside d s (r.y + r.h - 1) (r.x + r.w - 1) (omega arith) (omega arith) c
+
+-- a row of the picture has no more bytes than all of them
+line_inside : (d : Description) → 0 < d.dims.y
+    → d.dims.x * (pixel_samples d * sample_size d.kind) ≤ pixel_samples d * picture_bytes d.dims.x d.dims.y d.kind
+line_inside d h =
+    let m : ℕ = pixel_samples d in
+    let size : ℕ = sample_size d.kind in
+    let line : ℕ = d.dims.x * (m * size) in
+    let one : 1 ≤ d.dims.y = h in
+    let all : d.dims.y * line ≡ m * (d.dims.x * d.dims.y * size) =
+    rw (← mul_assoc, mul_comm d.dims.y d.dims.x, ← mul_assoc, mul_comm (d.dims.x * d.dims.y) m, mul_assoc) in
+    omega (arith, mul-le-mul_right line one, all)
+
+-- a channel with strips of its own has one sample of a pixel there
+planar_one : (d : Description) → d.interleaved ≡ false → pixel_samples d ≡ 1
+planar_one d e = rw e
+
+-- whole rows decide where the test says yes of a planar picture
+by_rows : (d : Description) (t : List ℕ) → (not d.interleaved && whole_rows d t) ≡ true → (d.interleaved ≡ false) × (whole_rows d t ≡ true)
+by_rows d t e = let b = both_hold (not d.interleaved) (whole_rows d t) e in (not-true d.interleaved b.0, b.1)
 
 -- ---- region's strips
 
@@ -106,55 +135,55 @@ end_inside d r a b h =
 pub record RegionAccepted (d : Description) (t : List ℕ) (len : ℕ) (co : Coordinate) (s : Strips) (r : Rect) : Type 0 where
   pub channel : channel_strips d (length t) co ≡ accepted s
   pub within : inside t len s.first s.count ≡ true
-  pub reach : window_end d r ≤ total t s.first s.count
+  pub reach : window_end d s r ≤ total t s.first s.count
   pub small : picture_bytes r.w r.h d.kind ≤ picture_limit
-  pub row : row_bytes d < 2 ^ 64
+  pub row : d.dims.x * (pixel_samples d * sample_size d.kind) < 2 ^ 64
 
--- A rectangle that has rows, in the picture.
-module _ (d : Description) (t : List ℕ) (len : ℕ) (co : Coordinate) (r : Rect) (wide : r.x + r.w ≤ d.dims.x) (high : r.y + r.h ≤ d.dims.y) (rows : 0 < r.h) where
+-- A rectangle that has samples, in the picture of a channel that there is.
+module _ (d : Description) (t : List ℕ) (len : ℕ) (co : Coordinate) (r : Rect) (there : co.c < d.dims.c) (wide : r.x + r.w ≤ d.dims.x) (high : r.y + r.h ≤ d.dims.y)
+    (columns : 0 < r.w) (rows : 0 < r.h) where
   -- by plane's checks
   pub accepted_by_plane : (s : Strips) → plane_strips d t len co ≡ accepted s → RegionAccepted d t len co s r
   accepted_by_plane s e =
       let p = plane_accepted d t len co s e in
-      let made : picture_bytes d.dims.x d.dims.y d.kind ≡ d.dims.y * row_bytes d = size_rows d.dims.x d.dims.y (sample_size d.kind) in
-      let one : 1 ≤ d.dims.y = omega arith in
+      let own = channel_own d (length t) co s p.channel there in
       record {
         channel = p.channel;
         within = p.within;
-        reach = omega (arith, end_inside d r wide high rows, p.summed);
+        reach = omega (arith, end_inside d s r wide high columns rows own, p.summed);
         small = omega (arith, size_part r.w r.h d.dims.x d.dims.y d.kind (omega arith) (omega arith), p.small);
-        row = omega (arith, mul-le-mul_right (row_bytes d) one, p.small);
+        row = omega (arith, line_inside d (omega arith), p.fits);
       }
 
   -- where all strips hold whole rows
-  accepted_by_rows : (s : Strips) → whole_rows d t ≡ true → window_strips d t len co r ≡ accepted s → RegionAccepted d t len co s r
+  accepted_by_rows : (s : Strips) → d.interleaved ≡ false → whole_rows d t ≡ true → window_strips d t len co r ≡ accepted s → RegionAccepted d t len co s r
   unfolding window_strips row_strips
-  accepted_by_rows s w e =
+  accepted_by_rows s planar w e =
       bind_then (picture_size r.w r.h d.kind) _ s e
       (λ n e₁ e₂.
       bind_then (channel_strips d (length t) co) _ s e₂
       (λ p e₃ e₄.
       bind_then (need decode (inside t len p.first p.count)) _ s e₄
       (λ u e₅ e₆.
-      bind_then (need decode (leb (window_end d r) (total t p.first p.count))) _ s e₆
+      bind_then (need decode (leb (window_end d p r) (total t p.first p.count))) _ s e₆
       (λ v e₇ e₈.
       let q : p ≡ s = cc in
       let z = size_is r.w r.h d.kind n e₁ in
       record {
         channel = rw q at e₃;
         within = rw q at (need_true _ (inside t len p.first p.count) u e₅);
-        reach = rw q at (leb-true (window_end d r) (total t p.first p.count) (need_true _ (leb (window_end d r) (total t p.first p.count)) v e₇));
+        reach = rw q at (leb-true (window_end d p r) (total t p.first p.count) (need_true _ (leb (window_end d p r) (total t p.first p.count)) v e₇));
         small = rw (sym z.0) z.1;
-        row = (whole_rows_lem d t w).fits;
+        row = rw (planar_one d planar, one-mul) (whole_rows_lem d t w).fits;
       }))))
 
-  accepted_by : (s : Strips) (b : Bool) → whole_rows d t ≡ b → strips_by b d t len co r ≡ accepted s → RegionAccepted d t len co s r
-  accepted_by s true w e = accepted_by_rows s w e
+  accepted_by : (s : Strips) (b : Bool) → (not d.interleaved && whole_rows d t) ≡ b → strips_by b d t len co r ≡ accepted s → RegionAccepted d t len co s r
+  accepted_by s true w e = let b = by_rows d t w in accepted_by_rows s b.0 b.1 e
   accepted_by s false w e = accepted_by_plane s e
 
   pub region_accepted : (s : Strips) → region_strips d t len co r ≡ accepted s → RegionAccepted d t len co s r
   unfolding region_strips
-  region_accepted s e = accepted_by s (whole_rows d t) refl e
+  region_accepted s e = accepted_by s (not d.interleaved && whole_rows d t) refl e
 
   -- The picture isn't oversized.
   module _ (size : ℕ) (e : picture_size d.dims.x d.dims.y d.kind ≡ accepted size) where
@@ -163,66 +192,78 @@ module _ (d : Description) (t : List ℕ) (len : ℕ) (co : Coordinate) (r : Rec
         let z = size_is d.dims.x d.dims.y d.kind size e in
         size_fits r.w r.h d.kind (omega (arith, size_part r.w r.h d.dims.x d.dims.y d.kind (omega arith) (omega arith), z.0, z.1))
 
-    -- strips that make the picture hold every rectangle of it
-    reaches : (s : Strips) → total t s.first s.count ≡ size → leb (window_end d r) (total t s.first s.count) ≡ true
-    reaches s q =
-        let z = size_is d.dims.x d.dims.y d.kind size e in
-        le-leb (window_end d r) (total t s.first s.count) (omega (arith, end_inside d r wide high rows, q, z.0, size_rows d.dims.x d.dims.y (sample_size d.kind)))
+    -- the strips of this many bytes make the picture
+    module _ (fits : pixel_samples d * size < 2 ^ 64) where
+      -- strips that make the picture hold every rectangle of it
+      reaches : (s : Strips) → total t s.first s.count ≡ pixel_samples d * size → channel_strips d (length t) co ≡ accepted s
+          → leb (window_end d s r) (total t s.first s.count) ≡ true
+      reaches s q h =
+          let z = size_is d.dims.x d.dims.y d.kind size e in
+          let held : window_end d s r ≤ pixel_samples d * size = rw z.0 (end_inside d s r wide high columns rows (channel_own d (length t) co s h there)) in
+          le-leb (window_end d s r) (total t s.first s.count) (omega (arith, held, q))
 
-    -- the two ways to judge strips that make the picture
-    judged_alike : (s : Strips) → total t s.first s.count ≡ size → channel_strips d (length t) co ≡ accepted s
-        → window_strips d t len co r ≡ plane_strips d t len co
-    unfolding window_strips row_strips plane_strips bind
-    judged_alike s q h = rw (part_size, e, h, reaches s q, turn_total decode decode t len s.first s.count size q)
+      -- the two ways to judge strips that make the picture
+      judged_alike : (s : Strips) → total t s.first s.count ≡ pixel_samples d * size → channel_strips d (length t) co ≡ accepted s
+          → window_strips d t len co r ≡ plane_strips d t len co
+      unfolding window_strips row_strips plane_strips bind
+      judged_alike s q h =
+          rw (part_size, e, joined_size_fits d size fits, h, reaches s q h, turn_total decode decode t len s.first s.count (pixel_samples d * size) q)
 
     -- those of a page of the test do
-    tested_made : whole_rows d t ≡ true → co.c < d.dims.c → ((page : ℕ) → page_of d.layout co ≡ Some page → page < pages d.layout)
-        → (s : Strips) → channel_strips d (length t) co ≡ accepted s → total t s.first s.count ≡ size
-    tested_made w k tested s h =
+    tested_made : d.interleaved ≡ false → whole_rows d t ≡ true → ((page : ℕ) → page_of d.layout co ≡ Some page → page < pages d.layout)
+        → (s : Strips) → channel_strips d (length t) co ≡ accepted s → total t s.first s.count ≡ pixel_samples d * size
+    tested_made planar w tested s h =
         channel_page d (length t) co s h
-        (λ page p there q.
+        (λ page p at q.
         let z = size_is d.dims.x d.dims.y d.kind size e in
-        let whole : whole_channel d t s ≡ true = rw q at (whole_tested d t page co.c w (tested page p) k) in
-        whole_bytes d t s whole ∙ sym (size_rows d.dims.x d.dims.y (sample_size d.kind)) ∙ sym z.0)
+        let whole : whole_channel d t s ≡ true = rw q at (whole_tested d t page co.c w (tested page p) there) in
+        rw (planar_one d planar, one-mul) (whole_bytes d t s whole ∙ sym (size_rows d.dims.x d.dims.y (sample_size d.kind)) ∙ sym z.0))
 
-    tested_by : (m : Result Strips) → channel_strips d (length t) co ≡ m → whole_rows d t ≡ true → co.c < d.dims.c
+    planar_fits : d.interleaved ≡ false → pixel_samples d * size < 2 ^ 64
+    planar_fits planar = rw (planar_one d planar, one-mul) (omega (arith, (size_is d.dims.x d.dims.y d.kind size e).1))
+
+    tested_by : (m : Result Strips) → channel_strips d (length t) co ≡ m → d.interleaved ≡ false → whole_rows d t ≡ true
         → ((page : ℕ) → page_of d.layout co ≡ Some page → page < pages d.layout) → window_strips d t len co r ≡ plane_strips d t len co
     unfolding window_strips row_strips bind
-    tested_by (accepted s) h w k tested = judged_alike s (tested_made w k tested s h) h
-    tested_by (refused row) h w k tested = rw (part_size, h) (strips_nowhere d t len co size row e h)
+    tested_by (accepted s) h planar w tested = judged_alike (planar_fits planar) s (tested_made planar w tested s h) h
+    tested_by (refused row) h planar w tested =
+        rw (part_size, h) (strips_nowhere d t len co size (pixel_samples d * size) e (joined_size_fits d size (planar_fits planar)) row h)
 
-    region_by_lem : (b : Bool) → whole_rows d t ≡ b → co.c < d.dims.c → ((page : ℕ) → page_of d.layout co ≡ Some page → page < pages d.layout)
+    region_by_lem : (b : Bool) → (not d.interleaved && whole_rows d t) ≡ b → ((page : ℕ) → page_of d.layout co ≡ Some page → page < pages d.layout)
         → strips_by b d t len co r ≡ plane_strips d t len co
-    region_by_lem true w k tested = tested_by (channel_strips d (length t) co) refl w k tested
-    region_by_lem false w k tested = refl
+    region_by_lem true w tested = let b = by_rows d t w in tested_by (channel_strips d (length t) co) refl b.0 b.1 tested
+    region_by_lem false w tested = refl
 
     -- a rectangle of a page of the test is decided by plane's checks
-    pub region_plane : co.c < d.dims.c → ((page : ℕ) → page_of d.layout co ≡ Some page → page < pages d.layout)
-        → region_strips d t len co r ≡ plane_strips d t len co
+    pub region_plane : ((page : ℕ) → page_of d.layout co ≡ Some page → page < pages d.layout) → region_strips d t len co r ≡ plane_strips d t len co
     unfolding region_strips
-    region_plane k tested = region_by_lem (whole_rows d t) refl k tested
+    region_plane tested = region_by_lem (not d.interleaved && whole_rows d t) refl tested
 
   -- an accepted picture's rectangles are accepted, whatever its page
   inside_by : (s : Strips) (b : Bool) → plane_strips d t len co ≡ accepted s → strips_by b d t len co r ≡ accepted s
   inside_by s true e =
       let p = plane_accepted d t len co s e in
-      judged_alike (picture_bytes d.dims.x d.dims.y d.kind) p.size s p.summed p.channel ∙ e
+      judged_alike (picture_bytes d.dims.x d.dims.y d.kind) p.size p.fits s p.summed p.channel ∙ e
   inside_by s false e = e
 
   strips_inside : (s : Strips) → plane_strips d t len co ≡ accepted s → region_strips d t len co r ≡ accepted s
   unfolding region_strips
-  strips_inside s e = inside_by s (whole_rows d t) e
+  strips_inside s e = inside_by s (not d.interleaved && whole_rows d t) e
 
 -- ---- samples
 
 -- every sample has the kind's bytes
+pub stored_length : (d : Description) (t f : List ℕ) (s : Strips) (row column : ℕ) → length (stored_picture d t f s row column) ≡ sample_size d.kind
+unfolding stored_picture
+stored_length d t f s row column = bytes_length (stored f t s.first s.count) (sample_place d s row column) (sample_size d.kind)
+
 pub channel_even : (d : Description) (t f : List ℕ) (s : Strips) (r : Rect) → Even (channel_picture d t f s) (sample_size d.kind) r
 unfolding channel_picture each_sample
 channel_even d t f s r i j li ui lj uj = by d.order
   where
-    by : (o : Order) → length (to_little o (picture (stored f t s.first s.count) d.dims.x (sample_size d.kind) i j)) ≡ sample_size d.kind
-    by little = picture_length_lem _ d.dims.x (sample_size d.kind) i j
-    by big = length-reverse (picture (stored f t s.first s.count) d.dims.x (sample_size d.kind) i j) ∙ picture_length_lem _ d.dims.x (sample_size d.kind) i j
+    by : (o : Order) → length (to_little o (stored_picture d t f s i j)) ≡ sample_size d.kind
+    by little = stored_length d t f s i j
+    by big = length-reverse (stored_picture d t f s i j) ∙ stored_length d t f s i j
 
 -- sample order, for all widths: looked at as a picture as wide as the rectangle, the answer is the channel's picture moved by x, y
 pub samples_at : (d : Description) (t f : List ℕ) (s : Strips) (r : Rect) (i j : ℕ) → i < r.h → j < r.w
@@ -280,17 +321,18 @@ module _ (d : Description) (t : List ℕ) (len : ℕ) (co : Coordinate) where
         (λ v e₃ e₄. filled_then s (is_empty r) refl e₄ (empty u v e₁ e₃) (full u v e₁ e₃)))
 
     -- a rectangle inside an accepted picture is accepted
-    filled_inside : {C : Type 0} (v : Unit {0}) (s : Strips) (b : Bool) → is_empty r ≡ b → rectangle d.dims r ≡ accepted v
+    filled_inside : {C : Type 0} (v : Unit {0}) (s : Strips) (b : Bool) → co.c < d.dims.c → is_empty r ≡ b → rectangle d.dims r ≡ accepted v
         → plane_strips d t len co ≡ accepted s → ((a : Strips) → filled_strips b d t len co r ≡ accepted a → C) → C
-    filled_inside v s true i h p go = go no_strips refl
-    filled_inside v s false i h p go =
+    filled_inside v s true there i h p go = go no_strips refl
+    filled_inside v s false there i h p go =
         let w = rectangle_within d.dims r v h in
-        go s (strips_inside d t len co r w.0 w.1 (not_empty r i).1 s p)
+        let n = not_empty r i in
+        go s (strips_inside d t len co r there w.0 w.1 n.0 n.1 s p)
 
     pub rectangle_from : {C : Type 0} (s : Strips) (v : Unit {0}) → plane_from d t len co ≡ accepted s → rectangle d.dims r ≡ accepted v
         → ((a : Strips) → region_from d t len co r ≡ accepted a → C) → C
     unfolding region_from bind
-    rectangle_from s v e h go = plane_from_then s e (λ u k p. filled_inside v s (is_empty r) refl h p (λ a q. go a (rw (k, h) q)))
+    rectangle_from s v e h go = plane_from_then s e (λ u k p. filled_inside v s (is_empty r) (coordinate_channel d co u k) refl h p (λ a q. go a (rw (k, h) q)))
 
 module _ (d : Description) (t f : List ℕ) (co : Coordinate) where
   -- what plane and region gave: samples of the strips that they are read from

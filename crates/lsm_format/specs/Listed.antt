@@ -34,10 +34,11 @@ span_ranges a (suc n) r = both (r a) (span_ranges (suc a) n r)
 -- A sample's bytes, each at its place in the file.
 unfoldable pub sample_ranges : Description → List ℕ → Strips → ℕ → ℕ → Ranges
 sample_ranges d table s row column =
-    span_ranges (sample_place d.dims.x (sample_size d.kind) row column) (sample_size d.kind)
+    span_ranges (sample_place d s row column) (sample_size d.kind)
     (λ k. at (place table s.first s.count k) 1)
 
--- "of the strips only the places of its samples in the channel's joined strips"; an empty rectangle has none
+-- "of the strips only the places of its samples in the channel's joined strips"; "The pixel bytes listed for a rectangle are those of its own
+-- channel", whatever stands between them. An empty rectangle has none.
 unfoldable pub window_ranges : Description → List ℕ → Rect → Strips → Ranges
 window_ranges d table r s = span_ranges r.y r.h (λ row. span_ranges r.x r.w (λ column. sample_ranges d table s row column))
 

@@ -117,11 +117,13 @@ walk o f = bind (u32_at o f 4) (λ place. chain 1000000 (eqb place 0) o f place 
 
 -- ---- the description
 
+-- Opening settles whether the channels are interleaved; plane and region go by that, whoever hands it in.
 pub record Description : Type 0 where
   pub order : Order
   pub kind : Kind
   pub dims : Dims
   pub layout : Layout
+  pub interleaved : Bool
   pub strips_per_channel : ℕ
   pub calibration : Calibration
   pub channel_block : Option ℕ
@@ -138,14 +140,30 @@ sample_kind format bits =
 abbrev pub channels : Directory → ℕ
 channels p = max 1 (p.scalars samples_per_pixel)
 
--- The first full page against the CZ block: "XY, channels, [..] several interleaved channels, strips per channel". "T above 1 is no longer
--- Unsupported, so that step leaves the order of checks".
+-- TIFF 6.0, "PlanarConfiguration": 1 is "Chunky format. The component values for each pixel are stored contiguously", 2 is "Planar format. The
+-- components are stored in separate "component planes"", and "If SamplesPerPixel is 1, PlanarConfiguration is irrelevant". Document 02,
+-- request 2: "Accept them, like any value but 2 with several channels".
+abbrev pub interleaved : Directory → Bool
+interleaved p = not (leb (channels p) 1 || planar p)
+
+-- How many component planes share out the strips of a page: one that has all channels, or one for each channel. "All strips then belong to
+-- every channel."
+abbrev pub component_planes : Bool → ℕ → ℕ
+component_planes true channels = 1
+component_planes false channels = channels
+
+-- The component planes of a page.
+abbrev pub page_planes : Directory → ℕ
+page_planes p = component_planes (interleaved p) (channels p)
+
+-- The first full page against the CZ block: "XY, channels, [..] strips per channel". Request 1: "T above 1 is no longer Unsupported, so that
+-- step leaves the order of checks"; request 2, of several interleaved channels: "that check leaves the order too", and "Strips must only be
+-- more than none", since one plane has any number of strips.
 unfoldable pub agreement : Directory → CzInfo → Result (Unit {0})
 agreement p i =
     bind (need decode (eqb i.dim_x (p.scalars image_width) && eqb i.dim_y (p.scalars image_length))) (λ _.
     bind (need decode (eqb i.dim_channels (channels p))) (λ _.
-    bind (need unsupported (leb (channels p) 1 || planar p)) (λ _.
-    need decode (not (eqb (length p.offsets) 0) && eqb (length p.offsets % channels p) 0))))
+    need decode (not (eqb (length p.offsets) 0) && eqb (length p.offsets % page_planes p) 0)))
 
 -- "T (0 counts as 1)", and so does Z.
 abbrev pub time_points : CzInfo → ℕ
@@ -169,7 +187,8 @@ describe o k p pages i =
       kind = k;
       dims = record { t = time_points i; c = channels p; z = planes i; y = p.scalars image_length; x = p.scalars image_width };
       layout = l;
-      strips_per_channel = length p.offsets / channels p;
+      interleaved = interleaved p;
+      strips_per_channel = length p.offsets / page_planes p;
       calibration = i.calibration;
       channel_block = i.channel_colors;
     })))

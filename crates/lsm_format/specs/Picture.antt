@@ -1,12 +1,13 @@
 -- Pictures and rectangles of them (lsm_reader.rs, plane and region; lsm_region.rs; rows.rs; types.rs, crop).
 use Rattle.std.specs.Prelude.{ℕ, zero, suc, ◌+◌, ◌-◌, ◌*◌, ◌/◌, ◌%◌, ◌^◌, Bool, true, false, not, ◌&&◌, List, [], ◌∷◌, ◌++◌, reverse, leb, ltb, eqb, length, get_or}
-use Rattle.lsm_format.specs.Answer.{Result, accepted, refused, bind, need, given, decode, scene_out_of_range}
+use Rattle.lsm_format.specs.Answer.{Result, accepted, refused, bind, need, given, decode, oversized_allocation, scene_out_of_range}
+use Rattle.lsm_format.specs.Words.{word}
 use Rattle.lsm_format.specs.Numbers.{Order, little, big}
-use Rattle.lsm_format.specs.Sizes.{sample_size, picture_size}
+use Rattle.lsm_format.specs.Sizes.{sample_size, picture_limit, picture_size}
 use Rattle.lsm_format.specs.Rectangle.{Rect, Coordinate, no_picture, coordinates, rectangle, is_empty}
 use Rattle.lsm_format.specs.Scenes.{pages, page_of}
 use Rattle.lsm_format.specs.Lent.{lend, filled}
-use Rattle.lsm_format.specs.Open.{Description}
+use Rattle.lsm_format.specs.Open.{Description, component_planes}
 
 -- ---- strips
 
@@ -65,14 +66,6 @@ bytes f a n = span a n (λ k. f k ∷ [])
 abbrev pub Picture : Type 0
 Picture = ℕ → ℕ → List ℕ
 
--- "the sample at row, column stored at (row × width + column) × sample size"
-abbrev pub sample_place : ℕ → ℕ → ℕ → ℕ → ℕ
-sample_place width size row column = (row * width + column) * size
-
--- "the channel's joined strips", of which byte k is f k, as a picture of the given width, with `size` bytes to a sample.
-unfoldable pub picture : (ℕ → ℕ) → ℕ → ℕ → Picture
-picture f width size row column = bytes f (sample_place width size row column) size
-
 -- "little-endian whatever the file's order"
 abbrev pub to_little : Order → List ℕ → List ℕ
 to_little little sample = sample
@@ -88,9 +81,28 @@ window p r = span r.y r.h (λ row. span r.x r.w (p row))
 
 -- ---- pages
 
--- A page holds the strips of channel 0, then of channel 1, and so on.
+-- A page holds the strips of its first component plane, then of the second, and so on.
 abbrev pub strips_per_page : Description → ℕ
-strips_per_page d = d.dims.c * d.strips_per_channel
+strips_per_page d = component_planes d.interleaved d.dims.c * d.strips_per_channel
+
+-- The component plane that has a channel: its own, or the one that has all.
+abbrev pub plane_of : Bool → ℕ → ℕ
+plane_of true c = 0
+plane_of false c = c
+
+-- "The component values for each pixel are stored contiguously": how many samples a pixel has in a component plane, and which of them is a
+-- channel's own.
+abbrev pub samples_together : Bool → ℕ → ℕ
+samples_together true channels = channels
+samples_together false channels = 1
+
+abbrev pub own_sample : Bool → ℕ → ℕ
+own_sample true c = c
+own_sample false c = 0
+
+-- Those of a pixel in the strips that a channel is read from: the "channels" of request 2's formula, or 1.
+abbrev pub pixel_samples : Description → ℕ
+pixel_samples d = samples_together d.interleaved d.dims.c
 
 -- A table of `words` words has the page whole, where a page has `strips` strips.
 abbrev pub page_in : ℕ → ℕ → ℕ → Bool
@@ -100,14 +112,21 @@ page_in strips words page = not (eqb strips 0) && leb (2 * ((page + 1) * strips)
 abbrev pub has_page : Description → ℕ → ℕ → Bool
 has_page d words page = page_in (strips_per_page d) words page
 
--- Strips that follow one another in the table: the first, and how many they are.
+-- The strips that a channel is read from, which follow one another in the table: the first, and how many they are; and which sample of a pixel
+-- there is the channel's own.
 pub record Strips : Type 0 where
   pub first : ℕ
   pub count : ℕ
+  pub sample : ℕ
 
--- The strips of a page's channel.
+-- The strips of a page's channel: those of the component plane that has it.
 abbrev pub strips_on : Description → ℕ → ℕ → Strips
-strips_on d page c = record { first = page * strips_per_page d + c * d.strips_per_channel; count = d.strips_per_channel }
+strips_on d page c =
+    record {
+      first = page * strips_per_page d + plane_of d.interleaved c * d.strips_per_channel;
+      count = d.strips_per_channel;
+      sample = own_sample d.interleaved c;
+    }
 
 -- "page" of "Order of checks": "A page number that overflows, no strips per page, or a page not wholly in the table [..] is 6". Which strips
 -- the picture is read from.
@@ -126,13 +145,19 @@ scene_there d scene = need (scene_out_of_range scene d.layout.scenes) (ltb scene
 unfoldable pub coordinate_there : Description → Coordinate → Result (Unit {0})
 coordinate_there d co = bind (scene_there d co.scene) (λ _. coordinates d.dims co)
 
--- "size; page; strips in turn, each within the file, then within the picture's size; their total". All that is asked of the strips is 2
--- where it fails.
+-- The bytes that a picture's strips must have: "channels × picture size instead of the picture's size" where the channels are interleaved. "If
+-- that product overflows, it is 4 with 2^64 − 1". Where they aren't, it is the picture's size, and fits.
+unfoldable pub joined_size : Description → ℕ → Result ℕ
+joined_size d size = given (oversized_allocation (2 ^ 64 - 1) picture_limit) (word (pixel_samples d * size))
+
+-- "size; page; strips in turn, each within the file, then within the picture's size; their total", with the product "right after the
+-- picture's size". All that is asked of the strips is 2 where it fails.
 unfoldable pub plane_strips : Description → List ℕ → ℕ → Coordinate → Result Strips
 plane_strips d table len co =
     bind (picture_size d.dims.x d.dims.y d.kind) (λ size.
+    bind (joined_size d size) (λ all.
     bind (channel_strips d (length table) co) (λ s.
-    bind (in_turn decode decode table len s.first s.count size) (λ _. accepted s)))
+    bind (in_turn decode decode table len s.first s.count all) (λ _. accepted s))))
 
 -- All of plane's checks but the buffer's: the strips that the picture is read from.
 unfoldable pub plane_from : Description → List ℕ → ℕ → Coordinate → Result Strips
@@ -144,10 +169,19 @@ pub record Samples : Type 0 where
   pub columns : ℕ
   pub bytes : List ℕ
 
+-- "The sample at row, column, channel stands at ((row × width + column) × channels + channel) × sample size in the joined strips." A channel
+-- with strips of its own has one sample of a pixel there, "stored at (row × width + column) × sample size".
+abbrev pub sample_place : Description → Strips → ℕ → ℕ → ℕ
+sample_place d s row column = ((row * d.dims.x + column) * pixel_samples d + s.sample) * sample_size d.kind
+
+-- "the picture meant is always the channel's joined strips": its samples, as they are stored.
+unfoldable pub stored_picture : Description → List ℕ → List ℕ → Strips → Picture
+stored_picture d table f s row column =
+    bytes (stored f table s.first s.count) (sample_place d s row column) (sample_size d.kind)
+
 -- The picture of these strips, and a rectangle of it.
 unfoldable pub channel_picture : Description → List ℕ → List ℕ → Strips → Picture
-channel_picture d table f s =
-    each_sample (to_little d.order) (picture (stored f table s.first s.count) d.dims.x (sample_size d.kind))
+channel_picture d table f s = each_sample (to_little d.order) (stored_picture d table f s)
 
 unfoldable pub samples_in : Description → List ℕ → List ℕ → Rect → Strips → Samples
 samples_in d table f r s = record { rows = r.h; columns = r.w; bytes = window (channel_picture d table f s) r }
@@ -204,8 +238,8 @@ whole_rows d table =
 -- ---- region
 
 -- Where the last sample of a rectangle ends in the joined strips: that of row y + h - 1, column x + w - 1.
-abbrev pub window_end : Description → Rect → ℕ
-window_end d r = (r.y + r.h - 1) * row_bytes d + (r.x + r.w) * sample_size d.kind
+abbrev pub window_end : Description → Strips → Rect → ℕ
+window_end d s r = sample_place d s (r.y + r.h - 1) (r.x + r.w - 1) + sample_size d.kind
 
 -- "the page, and all the channel's strips within the file". The last line always holds for the pages of the test, whose strips hold all
 -- rows of the picture. Past them, where only a handed-in description leads, a sample may be missing: "an outcome that they leave free", and
@@ -214,23 +248,24 @@ unfoldable pub row_strips : Description → List ℕ → ℕ → Coordinate → 
 row_strips d table len co r =
     bind (channel_strips d (length table) co) (λ s.
     bind (need decode (inside table len s.first s.count)) (λ _.
-    bind (need decode (leb (window_end d r) (total table s.first s.count))) (λ _. accepted s)))
+    bind (need decode (leb (window_end d s r) (total table s.first s.count))) (λ _. accepted s)))
 
 -- "the rectangle's size" before them
 unfoldable pub window_strips : Description → List ℕ → ℕ → Coordinate → Rect → Result Strips
 window_strips d table len co r = bind (picture_size r.w r.h d.kind) (λ _. row_strips d table len co r)
 
--- "then, where every page's strips hold whole rows, [..]; otherwise all of plane's checks"
+-- "then, where every page's strips hold whole rows, [..]; otherwise all of plane's checks". Of an interleaved picture, "Rectangles take
+-- plane's checks", whatever its strips hold.
 abbrev pub strips_by : Bool → Description → List ℕ → ℕ → Coordinate → Rect → Result Strips
 strips_by true d table len co r = window_strips d table len co r
 strips_by false d table len co r = plane_strips d table len co
 
 unfoldable pub region_strips : Description → List ℕ → ℕ → Coordinate → Rect → Result Strips
-region_strips d table len co r = strips_by (whole_rows d table) d table len co r
+region_strips d table len co r = strips_by (not d.interleaved && whole_rows d table) d table len co r
 
 -- "An in-bounds rectangle of width or height 0 is accepted empty with its shape": it is read from no strips.
 abbrev pub no_strips : Strips
-no_strips = record { first = 0; count = 0 }
+no_strips = record { first = 0; count = 0; sample = 0 }
 
 abbrev pub filled_strips : Bool → Description → List ℕ → ℕ → Coordinate → Rect → Result Strips
 filled_strips true d table len co r = accepted no_strips

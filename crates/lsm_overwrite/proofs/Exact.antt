@@ -2,10 +2,10 @@
 -- lies in `exact_samples`: what region's checks tell of the strips (`RegionAccepted`) says that every sample of the rectangle is in them, and
 -- there the bytes by their places are those of the joined strips. Assumes nothing.
 use Prim.Native.Nat.{ℕ, zero, suc, ◌+◌, ◌-◌, ◌*◌, ◌^◌, ◌≤◌, ◌<◌, min}
-use native.Mathlib.Nat.{zero-add, add-zero, add-mul, suc-mul, mul_assoc, mul-le-mul_right, not-suc-le-zero}
+use native.Mathlib.Nat.{zero-add, add-zero, suc-mul, mul-le-mul_right, not-suc-le-zero}
 use native.Mathlib.Omega.{arith}
 use mathlib.Core.Path.{◌≡◌, refl, sym, ap, ap₂, subst, ◌∙◌}
-use mathlib.Core.Bool.{Bool, true, false, ◌&&◌}
+use mathlib.Core.Bool.{Bool, true, false, not, ◌&&◌}
 use mathlib.Core.Logic.{inl, inr}
 use Rattle.std.specs.Prelude.{Option, None, Some}
 use mathlib.Core.List.{List, [], ◌∷◌, ◌++◌}
@@ -19,13 +19,13 @@ use Rattle.lsm_format.specs.Rectangle.{Dims, Rect, Coordinate, no_picture, coord
 use Rattle.lsm_format.specs.Scenes.{page_of}
 use Rattle.lsm_format.specs.Lent.{lend}
 use Rattle.lsm_format.specs.Open.{Description}
-use Rattle.lsm_format.specs.Picture.{Strips, Samples, offset_of, count_of, total, stored, lies, inside, in_turn, span, bytes, sample_place, picture, each_sample, to_little, has_page, strips_on, channel_strips, scene_there, coordinate_there, plane_strips, plane_from, channel_picture, samples_in, whole_picture, plane, row_bytes, whole_rows, window_end, row_strips, window_strips, strips_by, region_strips, filled_strips, region_from, region, into}
+use Rattle.lsm_format.specs.Picture.{Strips, Samples, offset_of, count_of, total, stored, lies, inside, in_turn, span, bytes, to_little, each_sample, pixel_samples, has_page, strips_on, channel_strips, scene_there, coordinate_there, joined_size, plane_strips, plane_from, sample_place, stored_picture, channel_picture, samples_in, whole_picture, plane, whole_rows, window_end, row_strips, window_strips, strips_by, region_strips, filled_strips, region_from, region, into}
 use Rattle.lsm_format.proofs.Lent.{lend_room, lend_short}
 use Rattle.lsm_format.proofs.Scenes.{page_some}
-use Rattle.lsm_format.proofs.Picture.{held, bytes_add, bytes_moved, bytes_length, bytes_at_lem, bytes_run, place_in, place_past, inside_head, coordinate_channel, rectangle_within, channel_page, channel_room}
+use Rattle.lsm_format.proofs.Picture.{held, picture, bytes_add, bytes_moved, bytes_length, bytes_at_lem, bytes_run, place_in, place_past, inside_head, coordinate_channel, rectangle_within, channel_page, channel_room}
 use Rattle.lsm_format.proofs.Region.{RegionAccepted, accepted_by_plane, region_accepted, samples_at, samples_length, size_samples, empty_then, plane_from_then, region_from_then, plane_then, region_then, rectangle_accepted}
 use Rattle.lsm_format.proofs.Apart.{no_case}
-use Rattle.lsm_overwrite.specs.Exact.{named_strips, strip_bytes, joined_strips, sample_of, picture_sample, There, Exact, Accepted, Inside, EachRectangle, EachPlane, EveryInside}
+use Rattle.lsm_overwrite.specs.Exact.{named_strips, strip_bytes, joined_strips, named_place, bytes_from, picture_sample, There, Exact, Accepted, Inside, EachRectangle, EachPlane, EveryInside}
 
 -- ---- the joined strips
 
@@ -78,7 +78,7 @@ inside_each t len (suc n) i (suc k) w h =
 -- ---- samples
 
 -- sample i, j of an answer, by its bytes
-answer_sample : (l : List ℕ) (w h s i j : ℕ) → length l ≡ h * w * s → i < h → j < w → sample_of l w s i j ≡ picture (held l) w s i j
+answer_sample : (l : List ℕ) (w h s i j : ℕ) → length l ≡ h * w * s → i < h → j < w → bytes_from l ((i * w + j) * s) s ≡ picture (held l) w s i j
 unfolding picture
 answer_sample l w h s i j e hi hj =
     let u : suc (i * w + j) ≤ h * w = omega (arith, suc-mul i w, mul-le-mul_right w hi) in
@@ -86,13 +86,16 @@ answer_sample l w h s i j e hi hj =
     sym (bytes_run (held l) ((i * w + j) * s) s l ((i * w + j) * s) (λ b k. refl) v)
 
 -- a sample of the rectangle ends where the rectangle does, or before
-pub sample_end : (d : Description) (r : Rect) (row column : ℕ) → row < r.y + r.h → column < r.x + r.w
-    → sample_place d.dims.x (sample_size d.kind) row column + sample_size d.kind ≤ window_end d r
-sample_end d r row column u v =
-    let s : ℕ = sample_size d.kind in
+pub sample_end : (d : Description) (s : Strips) (r : Rect) (row column : ℕ) → row < r.y + r.h → column < r.x + r.w
+    → sample_place d s row column + sample_size d.kind ≤ window_end d s r
+sample_end d s r row column u v =
+    let m : ℕ = pixel_samples d in
+    let pixel : ℕ = row * d.dims.x + column in
+    let last : ℕ = (r.y + r.h - 1) * d.dims.x + (r.x + r.w - 1) in
     let rows : row ≤ r.y + r.h - 1 = omega arith in
-    let q : (row * d.dims.x + column) * s ≡ row * row_bytes d + column * s = rw (add-mul, mul_assoc) in
-    omega (arith, q, mul-le-mul_right (row_bytes d) rows, suc-mul column s, mul-le-mul_right s v)
+    let pixels : pixel ≤ last = omega (arith, mul-le-mul_right d.dims.x rows) in
+    let samples : pixel * m + s.sample ≤ last * m + s.sample = omega (arith, mul-le-mul_right m pixels) in
+    omega (arith, mul-le-mul_right (sample_size d.kind) samples)
 
 -- the strips that a check handed over are those that the caller named
 strips_named : (d : Description) (words : ℕ) (co : Coordinate) (s : Strips) → channel_strips d words co ≡ accepted s → s ≡ named_strips d co
@@ -100,30 +103,37 @@ strips_named d words co s e =
     channel_page d words co s e
     (λ page p there q. sym q ∙ ap (λ (k : ℕ). strips_on d k co.c) (page_some d.layout co page p).1)
 
--- A rectangle that has samples, of strips that are accepted for it.
-module _ (d : Description) (t f : List ℕ) (co : Coordinate) (s : Strips) (r : Rect) (y : RegionAccepted d t (length f) co s r) (i j : ℕ) (hi : i < r.h)
-    (hj : j < r.w) where
-  named : strip_bytes f t s.first s.count ≡ joined_strips d t f co
-  unfolding joined_strips
-  named = ap (λ (k : Strips). strip_bytes f t k.first k.count) (strips_named d (length t) co s y.channel)
+-- A sample of a rectangle, of strips that are accepted for it.
+module _ (d : Description) (t f : List ℕ) (co : Coordinate) (s : Strips) (r : Rect) (y : 0 < r.h → 0 < r.w → RegionAccepted d t (length f) co s r)
+    (i j : ℕ) (hi : i < r.h) (hj : j < r.w) where
+  named : s ≡ named_strips d co
+  named = strips_named d (length t) co s (y (omega arith) (omega arith)).channel
+
+  -- so the named strips are accepted
+  named_accepted : RegionAccepted d t (length f) co (named_strips d co) r
+  named_accepted = subst (λ (k : Strips). RegionAccepted d t (length f) co k r) named (y (omega arith) (omega arith))
+
+  -- and the sample ends in them
+  sample_reached : named_place d co (r.y + i) (r.x + j) + sample_size d.kind ≤ total t (named_strips d co).first (named_strips d co).count
+  sample_reached = omega (arith, sample_end d (named_strips d co) r (r.y + i) (r.x + j) (omega arith) (omega arith), named_accepted.reach)
 
   sample_there : co.c < d.dims.c → There d t f co (r.y + i) (r.x + j)
+  unfolding joined_strips
   sample_there h =
-      let q = strips_named d (length t) co s y.channel in
+      let n = named_strips d co in
       record {
-        in_table = subst (λ (k : Strips). 2 * (k.first + k.count) ≤ length t) q (channel_room d (length t) co s y.channel h);
-        in_file = subst (λ (k : Strips). (m : ℕ) → m < k.count → offset_of t (k.first + m) + count_of t (k.first + m) ≤ length f) q
-            (λ m l. inside_each t (length f) s.count s.first m y.within l);
-        in_strips = rw (sym named, joined_length f t s.first s.count y.within) (omega (arith, sample_end d r (r.y + i) (r.x + j) (omega arith) (omega arith), y.reach));
+        in_table = channel_room d (length t) co n named_accepted.channel h;
+        in_file = λ m l. inside_each t (length f) n.count n.first m named_accepted.within l;
+        in_strips = rw (joined_length f t n.first n.count named_accepted.within) sample_reached;
       }
 
   sample_same : channel_picture d t f s (r.y + i) (r.x + j) ≡ picture_sample d t f co (r.y + i) (r.x + j)
-  unfolding channel_picture each_sample picture picture_sample
+  unfolding channel_picture each_sample stored_picture picture_sample joined_strips
   sample_same =
-      let at : ℕ = sample_place d.dims.x (sample_size d.kind) (r.y + i) (r.x + j) in
-      ap (to_little d.order)
-      (joined_part f t s.first s.count at (sample_size d.kind) y.within (omega (arith, sample_end d r (r.y + i) (r.x + j) (omega arith) (omega arith), y.reach))
-      ∙ ap (λ (l : List ℕ). take (sample_size d.kind) (drop at l)) named)
+      let n = named_strips d co in
+      ap (λ (k : Strips). channel_picture d t f k (r.y + i) (r.x + j)) named
+      ∙ ap (to_little d.order)
+      (joined_part f t n.first n.count (named_place d co (r.y + i) (r.x + j)) (sample_size d.kind) named_accepted.within sample_reached)
 
 -- the samples of accepted strips; an empty rectangle asks nothing of them
 exact_samples : (d : Description) (t f : List ℕ) (co : Coordinate) (s : Strips) (r : Rect) → co.c < d.dims.c
@@ -140,8 +150,8 @@ exact_samples d t f co s r h y a e =
       sample = λ i j hi hj.
           answer_sample (samples_in d t f r s).bytes r.w r.h (sample_size d.kind) i j size hi hj
           ∙ samples_at d t f s r i j hi hj
-          ∙ sample_same d t f co s r (y (omega arith) (omega arith)) i j hi hj;
-      there = λ i j hi hj. sample_there d t f co s r (y (omega arith) (omega arith)) i j hi hj h;
+          ∙ sample_same d t f co s r y i j hi hj;
+      there = λ i j hi hj. sample_there d t f co s r y i j hi hj h;
       size = size;
     })
 
@@ -156,7 +166,8 @@ each_rectangle d t f co r a e =
     exact_samples d t f co s r (coordinate_channel d co u e₁) (λ h k. empty_then r i (λ z. absurd (omega arith)) (λ z. absurd (omega arith))) a w)
     (λ u v e₁ e₂ i k.
     let l = rectangle_within d.dims r v e₂ in
-    exact_samples d t f co s r (coordinate_channel d co u e₁) (λ h _. region_accepted d t (length f) co r l.0 l.1 h s k) a w))
+    let there = coordinate_channel d co u e₁ in
+    exact_samples d t f co s r there (λ high wide. region_accepted d t (length f) co r there l.0 l.1 wide high s k) a w))
 
 pub each_plane : EachPlane
 each_plane d t f co a e =
@@ -164,8 +175,9 @@ each_plane d t f co a e =
     (λ s p w.
     plane_from_then d t (length f) co s p
     (λ u e₁ k.
-    exact_samples d t f co s (whole_picture d) (coordinate_channel d co u e₁)
-    (λ h _. accepted_by_plane d t (length f) co (whole_picture d) (omega arith) (omega arith) h s k) a w))
+    let there = coordinate_channel d co u e₁ in
+    exact_samples d t f co s (whole_picture d) there
+    (λ high wide. accepted_by_plane d t (length f) co (whole_picture d) there (omega arith) (omega arith) wide high s k) a w))
 
 -- ---- accepted, or refused with 7 only
 
@@ -204,6 +216,10 @@ size_lower w h k =
     lower_bind _ _ (lower_given (oversized_allocation (2 ^ 64 - 1) picture_limit) (word (picture_bytes w h k)) (omega arith))
     (λ n. lower_bind _ _ (lower_need (oversized_allocation n picture_limit) (leb n picture_limit) (omega arith)) (λ _. tt))
 
+joined_lower : (d : Description) (size : ℕ) → Lower (joined_size d size)
+unfolding joined_size
+joined_lower d size = lower_given (oversized_allocation (2 ^ 64 - 1) picture_limit) (word (pixel_samples d * size)) (omega arith)
+
 channel_lower : (d : Description) (words : ℕ) (co : Coordinate) → Lower (channel_strips d words co)
 unfolding channel_strips Lower
 channel_lower d words co =
@@ -223,8 +239,10 @@ module _ (d : Description) (t : List ℕ) (len : ℕ) (co : Coordinate) where
   strips_lower =
       lower_bind _ _ (size_lower d.dims.x d.dims.y d.kind)
       (λ size.
+      lower_bind _ _ (joined_lower d size)
+      (λ all.
       lower_bind _ _ (channel_lower d (length t) co)
-      (λ s. lower_bind _ _ (turn_lower t len s.first s.count size) (λ _. tt)))
+      (λ s. lower_bind _ _ (turn_lower t len s.first s.count all) (λ _. tt))))
 
   region_strips_lower : (r : Rect) (b : Bool) → Lower (strips_by b d t len co r)
   unfolding window_strips row_strips Lower
@@ -234,13 +252,13 @@ module _ (d : Description) (t : List ℕ) (len : ℕ) (co : Coordinate) where
       lower_bind _ _ (channel_lower d (length t) co)
       (λ s.
       lower_bind _ _ (lower_need decode (inside t len s.first s.count) (omega arith))
-      (λ _. lower_bind _ _ (lower_need decode (leb (window_end d r) (total t s.first s.count)) (omega arith)) (λ _. tt))))
+      (λ _. lower_bind _ _ (lower_need decode (leb (window_end d s r) (total t s.first s.count)) (omega arith)) (λ _. tt))))
   region_strips_lower r false = strips_lower
 
   filled_lower : (r : Rect) (b : Bool) → Lower (filled_strips b d t len co r)
   unfolding region_strips Lower
   filled_lower r true = tt
-  filled_lower r false = region_strips_lower r (whole_rows d t)
+  filled_lower r false = region_strips_lower r (not d.interleaved && whole_rows d t)
 
 module _ (d : Description) (t f : List ℕ) (co : Coordinate) where
   pub plane_lower : Lower (plane d t f co)

@@ -13,7 +13,7 @@ use Rattle.lsm_format.specs.Answer.{accepted}
 use Rattle.lsm_format.specs.Ranges.{Ranges, On, Agree}
 use Rattle.lsm_format.specs.Rectangle.{Rect, Coordinate}
 use Rattle.lsm_format.specs.Open.{Description}
-use Rattle.lsm_format.specs.Picture.{Strips, offset_of, count_of, total, place, stored, inside, span, bytes, picture, to_little, each_sample, window, channel_picture, samples_in, whole_picture, plane, window_end, region_from, region}
+use Rattle.lsm_format.specs.Picture.{Strips, offset_of, count_of, total, place, stored, inside, span, bytes, to_little, each_sample, window, stored_picture, channel_picture, samples_in, whole_picture, plane, window_end, region_from, region}
 use Rattle.lsm_format.specs.Listed.{strips_ranges, span_ranges, sample_ranges, window_ranges, region_ranges}
 use Rattle.lsm_format.proofs.Accepting.{accepting_self, both_hold}
 use Rattle.lsm_format.proofs.Open.{double}
@@ -40,7 +40,7 @@ module _ (f g : List ℕ) where
   -- the samples of a rectangle, by their places
   samples_law : (d : Description) (table rest : List ℕ) (r : Rect) (s : Strips) → Has table rest s.first s.count →
       Agree f g (window_ranges d table r s) → samples_in d (table ++ rest) g r s ≡ samples_in d table f r s
-  unfolding samples_in window window_ranges sample_ranges channel_picture each_sample picture bytes stored
+  unfolding samples_in window window_ranges sample_ranges channel_picture each_sample stored_picture bytes stored
   samples_law d table rest r s h w =
       ap (λ (bs : List ℕ). record { rows = r.h; columns = r.w; bytes = bs })
       (span_law _ _ _ _ _ (λ row.
@@ -78,11 +78,11 @@ module _ (f g : List ℕ) where
 
     -- those of a rectangle, where the strips hold its samples
     window_all : (d : Description) (r : Rect) (s : Strips) → inside table (length f) s.first s.count ≡ true →
-        (0 < r.w → 0 < r.h → window_end d r ≤ total table s.first s.count) → Agree f g (window_ranges d table r s)
+        (0 < r.w → 0 < r.h → window_end d s r ≤ total table s.first s.count) → Agree f g (window_ranges d table r s)
     unfolding window_ranges sample_ranges
     window_all d r s t reach =
         span_all _ _ _ (λ row a u. span_all _ _ _ (λ column b v. span_all _ _ _ (λ k _ l.
-        place_law s.count s.first k t (omega (arith, sample_end d r row column u v, reach (omega arith) (omega arith))))))
+        place_law s.count s.first k t (omega (arith, sample_end d s r row column u v, reach (omega arith) (omega arith))))))
 
   -- ---- plane and region
 

@@ -14,11 +14,11 @@ use Rattle.lsm_format.specs.Answer.{accepted, need, decode}
 use Rattle.lsm_format.specs.Rectangle.{Rect, Coordinate, no_picture, coordinates, is_empty}
 use Rattle.lsm_format.specs.Scenes.{pages, page_of}
 use Rattle.lsm_format.specs.Open.{Description}
-use Rattle.lsm_format.specs.Picture.{Strips, offset_of, count_of, total, place, inside, in_turn, strips_per_page, has_page, strips_on, channel_strips, coordinate_there, plane_strips, plane_from, whole_picture, row_bytes, whole_strips, rows_in, whole_channel, whole_rows_of, whole_channels, whole_pages, whole_rows, window_end, row_strips, window_strips, strips_by, region_strips, filled_strips, region_from}
+use Rattle.lsm_format.specs.Picture.{Strips, offset_of, count_of, total, place, inside, in_turn, strips_per_page, plane_of, has_page, strips_on, channel_strips, coordinate_there, plane_strips, plane_from, whole_picture, row_bytes, whole_strips, rows_in, whole_channel, whole_rows_of, whole_channels, whole_pages, whole_rows, window_end, row_strips, window_strips, strips_by, region_strips, filled_strips, region_from}
 use Rattle.lsm_format.proofs.Scenes.{page_some}
 use Rattle.lsm_format.proofs.Accepting.{Accepting, accepting_bind, accepting_then, accepting_need, accepting_given, accepting_map, accepting_told, both_hold}
 use Rattle.lsm_format.proofs.Opened.{Fits}
-use Rattle.lsm_format.proofs.Picture.{place_in, place_past, plane_accepted, rectangle_within}
+use Rattle.lsm_format.proofs.Picture.{place_in, place_past, plane_less, plane_accepted, rectangle_within}
 use Rattle.lsm_format.proofs.Region.{accepted_by_plane, region_accepted, empty_then, not_empty, plane_from_then, region_from_then}
 use Rattle.lsm_overwrite.proofs.TwoFiles.{bind_law, bind_accepting}
 
@@ -112,8 +112,9 @@ module _ (d : Description) (table rest : List ℕ) (fits : Fits d table) where
   strips_has : (page c : ℕ) → page < pages d.layout → c < d.dims.c →
       Has table rest (strips_on d page c).first (strips_on d page c).count
   strips_has page c h k =
-      let below : suc c * d.strips_per_channel ≤ strips_per_page d = mul-le-mul_right d.strips_per_channel k in
-      omega (arith, page_has page h, suc-mul c d.strips_per_channel, add-mul page 1 (strips_per_page d), one-mul (strips_per_page d))
+      let plane : ℕ = plane_of d.interleaved c in
+      let below : suc plane * d.strips_per_channel ≤ strips_per_page d = mul-le-mul_right d.strips_per_channel (plane_less d.interleaved c d.dims.c k) in
+      omega (arith, page_has page h, suc-mul plane d.strips_per_channel, add-mul page 1 (strips_per_page d), one-mul (strips_per_page d))
 
   has_page_own : (page : ℕ) → page < pages d.layout → has_page d (length (table ++ rest)) page ≡ has_page d (length table) page
   has_page_own page h =
@@ -165,8 +166,9 @@ module _ (d : Description) (table rest : List ℕ) (fits : Fits d table) where
     unfolding plane_strips
     plane_own =
         bind_law _ refl (λ size.
+        bind_law _ refl (λ all.
         bind_accepting _ _ channel_strips_own channel_strips_has (λ s h.
-        bind_law _ (turn_own table rest decode decode len s.count s.first size h) (λ _. refl)))
+        bind_law _ (turn_own table rest decode decode len s.count s.first all h) (λ _. refl))))
 
     region_by_own : (b : Bool) (r : Rect) → strips_by b d (table ++ rest) len co r ≡ strips_by b d table len co r
     unfolding window_strips row_strips
@@ -174,13 +176,13 @@ module _ (d : Description) (table rest : List ℕ) (fits : Fits d table) where
         bind_law _ refl (λ _.
         bind_accepting _ _ channel_strips_own channel_strips_has (λ s h.
         bind_law _ (ap (need decode) (inside_own table rest len s.count s.first h)) (λ _.
-        bind_law _ (ap (λ (n : ℕ). need decode (leb (window_end d r) n)) (total_own table rest s.count s.first h)) (λ _. refl))))
+        bind_law _ (ap (λ (n : ℕ). need decode (leb (window_end d s r) n)) (total_own table rest s.count s.first h)) (λ _. refl))))
     region_by_own false r = plane_own
 
     filled_own : (b : Bool) (r : Rect) → filled_strips b d (table ++ rest) len co r ≡ filled_strips b d table len co r
     unfolding region_strips
     filled_own true r = refl
-    filled_own false r = rw rows_alike (region_by_own (whole_rows d table) r)
+    filled_own false r = rw rows_alike (region_by_own (not d.interleaved && whole_rows d table) r)
 
     strips_told : (s : Strips) → channel_strips d (length table) co ≡ accepted s → Has table rest s.first s.count
     strips_told s e = accepting_told _ _ s channel_strips_has e
@@ -189,7 +191,7 @@ module _ (d : Description) (table rest : List ℕ) (fits : Fits d table) where
   pub record Within (len : ℕ) (r : Rect) (s : Strips) : Type 0 where
     pub has : Has table rest s.first s.count
     pub in_file : inside table len s.first s.count ≡ true
-    pub reach : 0 < r.w → 0 < r.h → window_end d r ≤ total table s.first s.count
+    pub reach : 0 < r.w → 0 < r.h → window_end d s r ≤ total table s.first s.count
 
   -- "t, c, z": a coordinate that is accepted is there
   coordinate_there_lem : (co : Coordinate) → Accepting (λ (u : Unit {0}). Below co) (coordinate_there d co)
@@ -221,7 +223,7 @@ module _ (d : Description) (table rest : List ℕ) (fits : Fits d table) where
         record {
           has = strips_told len co h s a.channel;
           in_file = a.within;
-          reach = λ _ l. (accepted_by_plane d table len co (whole_picture d) (omega arith) (omega arith) l s p).reach;
+          reach = λ wide high. (accepted_by_plane d table len co (whole_picture d) h.1 (omega arith) (omega arith) wide high s p).reach;
         })
 
     pub region_within : (r : Rect) (s : Strips) → region_from d table len co r ≡ accepted s → Within len r s
@@ -233,6 +235,7 @@ module _ (d : Description) (table rest : List ℕ) (fits : Fits d table) where
         (record { has = omega arith; in_file = refl; reach = λ a b. empty_then r i (λ z. absurd (omega arith)) (λ z. absurd (omega arith)) }))
         (λ u v k p i m.
         let l = rectangle_within d.dims r v p in
-        let a = region_accepted d table len co r l.0 l.1 (not_empty r i).1 s m in
+        let n = not_empty r i in
         let h = accepting_told _ _ u (coordinate_there_lem co) k in
+        let a = region_accepted d table len co r h.1 l.0 l.1 n.0 n.1 s m in
         record { has = strips_told len co h s a.channel; in_file = a.within; reach = λ _ _. a.reach })

@@ -1,7 +1,8 @@
 -- Demand 3, its second half: "Whatever description, table and file are given, and with a buffer long enough, each accepted rectangle of h
 -- rows and w columns from row y, column x has at i, j, for every i below h and j below w, exactly the sample at y + i, x + j of the picture
 -- defined under 2, and nothing more; and every rectangle inside an accepted picture is accepted." The statement is `EachRectangle`,
--- `EachPlane` and `EveryInside` at the end; proofs/Exact.antt proves them. What a function leaves in the caller's buffer is `Delivered`.
+-- `EachPlane` and `EveryInside` at the end, for planar and interleaved pictures alike; proofs/Exact.antt proves them. What a function leaves in
+-- the caller's buffer is `Delivered`.
 use Rattle.std.specs.Prelude.{ℕ, zero, suc, ◌+◌, ◌*◌, ◌^◌, ◌≤◌, ◌<◌, ◌⊎◌, ◌≡◌, List, [], ◌∷◌, ◌++◌, length, take, drop}
 use Rattle.lsm_format.specs.Answer.{Result, accepted, refused}
 use Rattle.lsm_format.specs.Sizes.{sample_size}
@@ -25,14 +26,19 @@ strip_bytes f table i (suc n) = take (count_of table i) (drop (offset_of table i
 unfoldable pub joined_strips : Description → List ℕ → List ℕ → Coordinate → List ℕ
 joined_strips d table f co = strip_bytes f table (named_strips d co).first (named_strips d co).count
 
--- "with the sample at row, column stored at (row × width + column) × sample size": of rows of `width` samples, of s bytes each
-abbrev pub sample_of : List ℕ → ℕ → ℕ → ℕ → ℕ → List ℕ
-sample_of bytes width s row column = take s (drop (sample_place width s row column) bytes)
+-- "with the sample at row, column stored at (row × width + column) × sample size", or, interleaved, "at ((row × width + column) × channels +
+-- channel) × sample size in the joined strips".
+abbrev pub named_place : Description → Coordinate → ℕ → ℕ → ℕ
+named_place d co row column = sample_place d (named_strips d co) row column
+
+-- s bytes from a place on
+abbrev pub bytes_from : List ℕ → ℕ → ℕ → List ℕ
+bytes_from bytes at s = take s (drop at bytes)
 
 -- "little-endian whatever the file's order"
 unfoldable pub picture_sample : Description → List ℕ → List ℕ → Coordinate → ℕ → ℕ → List ℕ
 picture_sample d table f co row column =
-    to_little d.order (sample_of (joined_strips d table f co) d.dims.x (sample_size d.kind) row column)
+    to_little d.order (bytes_from (joined_strips d table f co) (named_place d co row column) (sample_size d.kind))
 
 -- A sample that is there, all of it: the channel's strips are in the table, each of them lies in the file, and joined they have the sample's
 -- bytes. So no byte is made up for one that is missing.
@@ -40,7 +46,7 @@ pub record There (d : Description) (table f : List ℕ) (co : Coordinate) (row c
   pub in_table : 2 * ((named_strips d co).first + (named_strips d co).count) ≤ length table
   pub in_file : (k : ℕ) → k < (named_strips d co).count →
       offset_of table ((named_strips d co).first + k) + count_of table ((named_strips d co).first + k) ≤ length f
-  pub in_strips : sample_place d.dims.x (sample_size d.kind) row column + sample_size d.kind ≤ length (joined_strips d table f co)
+  pub in_strips : named_place d co row column + sample_size d.kind ≤ length (joined_strips d table f co)
 
 -- ---- an answer
 
@@ -52,7 +58,7 @@ pub record Exact (d : Description) (table f : List ℕ) (co : Coordinate) (r : R
   -- "has at i, j, for every i below h and j below w, exactly the sample at y + i, x + j": "the one at i, j of an answer w columns wide stands
   -- at (i × w + j) × sample size"
   pub sample : (i j : ℕ) → i < r.h → j < r.w →
-      sample_of bytes r.w (sample_size d.kind) i j ≡ picture_sample d table f co (r.y + i) (r.x + j)
+      bytes_from bytes ((i * r.w + j) * sample_size d.kind) (sample_size d.kind) ≡ picture_sample d table f co (r.y + i) (r.x + j)
   pub there : (i j : ℕ) → i < r.h → j < r.w → There d table f co (r.y + i) (r.x + j)
   -- "and nothing more"
   pub size : length bytes ≡ r.h * r.w * sample_size d.kind

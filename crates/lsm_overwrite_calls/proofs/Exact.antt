@@ -25,7 +25,7 @@ use Rattle.lsm_region.specs.declared.Picture.{Picture}
 use Rattle.lsm_format.specs.declared.error.Refusal.{Refusal}
 use Rattle.std.specs.Prelude.{Ok, Result as Answered}
 use Rattle.lsm_words.specs.Calibration.{chosen, float_by, step_by, sized_by, size_by}
-use Rattle.lsm_words.specs.Description.{order_by, kind_by, block_by, described_by}
+use Rattle.lsm_words.specs.Description.{order_by, kind_by, block_by, interleaved_by, described_by}
 use Rattle.lsm_words.specs.Answers.{picture_words}
 use Rattle.lsm_c.specs.Calls.{number_of, plane_by, region_by, PicturedBy}
 use Rattle.lsm_overwrite.specs.Exact.{Exact, Delivered, Accepted, Inside}
@@ -163,14 +163,16 @@ size_lower n x y step bits =
     (tt, (lower_bind _ _ (float_lower x) (λ a. lower_bind _ _ (float_lower y) (λ b. lower_bind _ _ (step_lower step bits) (λ z. tt))), tt))
 
 described_lower : (w : List ℕ) → Lower (described_by w)
-unfolding described_by order_by kind_by block_by AllLower Lower
+unfolding described_by order_by kind_by block_by interleaved_by AllLower Lower
 described_lower w =
     lower_bind _ _ (chosen_lower _ (get_or w 0 0) (tt, (tt, tt)))
     (λ order.
     lower_bind _ _ (chosen_lower _ (get_or w 1 0) (tt, (tt, (tt, (tt, tt)))))
     (λ kind.
     lower_bind _ _ (size_lower (get_or w 10 0) (get_or w 11 0) (get_or w 12 0) (get_or w 13 0) (get_or w 14 0))
-    (λ calibration. lower_bind _ _ (chosen_lower _ (get_or w 15 0) (tt, (tt, tt))) (λ block. tt))))
+    (λ calibration.
+    lower_bind _ _ (chosen_lower _ (get_or w 15 0) (tt, (tt, tt)))
+    (λ block. lower_bind _ _ (chosen_lower _ (get_or w 18 0) (tt, (tt, tt))) (λ interleaved. tt)))))
 
 nought_by : {C : Type 0} (b : Bool) (x : Samples) (room : ℕ) → leb (length x.bytes) room ≡ b → 0 ≡ number_of (into (accepted x) room)
     → (into (accepted x) room ≡ accepted x → C) → C

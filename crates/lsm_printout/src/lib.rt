@@ -77,7 +77,7 @@ pub fn print<W: Write>(out: &mut W, buf: &[u8]) -> io::Result<usize>
     ensures value { IfOk result (λ n. n ≡ length (printout buf.now)) }
     ensures written { OnOk result (Appends (W.contents out.old) (W.contents out.new) (printout buf.now)) }
 {
-    let mut page = Page::<524288>::new();
+    let mut page = Page::<1048576>::new();
     page.list(buf);
     write_printout(out, page.as_slice())
 }

@@ -1,6 +1,6 @@
 -- Laws of a channel's strips, a case each: where they stand in the table, and what the whole-row test says of all of them. Assumes nothing.
-use Prim.Native.Nat.{ℕ, zero, suc, ◌+◌, ◌*◌, ◌/◌, ◌^◌, ◌<◌, ◌≤◌}
-use native.Mathlib.Nat.{not-suc-le-zero, zero-mul, mul-zero, suc-mul, add-zero, zero-add, mul-le-mul, mul-le-mul_right, le-div_iff_mul-le, div-lt_iff_lt-mul}
+use Prim.Native.Nat.{ℕ, zero, suc, ◌+◌, ◌-◌, ◌*◌, ◌/◌, ◌^◌, ◌<◌, ◌≤◌}
+use native.Mathlib.Nat.{not-suc-le-zero, zero-mul, mul-zero, mul-one, suc-mul, add-mul, mul_assoc, add-zero, zero-add, mul-le-mul, mul-le-mul_right, le-div_iff_mul-le, div-lt_iff_lt-mul}
 use native.Mathlib.Omega.{arith}
 use mathlib.Core.Path.{◌≡◌, refl, sym, ap, ap₂, ◌∙◌}
 use mathlib.Core.Bool.{Bool, true, false, not, ◌&&◌, and-false, and-true, cond}
@@ -20,10 +20,10 @@ use Rattle.lsm_format.specs.Sizes.{sample_size, picture_size}
 use Rattle.lsm_format.specs.Words.{word}
 use Rattle.lsm_format.specs.Rectangle.{Rect, Coordinate, no_picture}
 use Rattle.lsm_format.specs.Scenes.{pages, pages_expected, page_of}
-use Rattle.lsm_format.specs.Open.{Description}
-use Rattle.lsm_format.specs.Picture.{Strips, strips_per_page, page_in, has_page, strips_on, channel_strips, row_bytes, whole_channel, whole_channels, whole_page, whole_pages, whole_rows, inside, total, window_end, plane_strips, row_strips, window_strips, region_strips}
+use Rattle.lsm_format.specs.Open.{Description, component_planes}
+use Rattle.lsm_format.specs.Picture.{Strips, strips_per_page, plane_of, own_sample, page_in, has_page, strips_on, channel_strips, row_bytes, whole_rows_of, whole_channel, whole_channels, whole_page, whole_pages, whole_rows, inside, total, window_end, plane_strips, row_strips, window_strips, strips_by, region_strips, samples_together}
 use Rattle.lsm_format.proofs.Words.{word_some, word_none}
-use Rattle.lsm_format.proofs.Picture.{page_there, page_missing, given_some, channel_nowhere, channel_missing, channel_at}
+use Rattle.lsm_format.proofs.Picture.{page_there, page_missing, plane_less, given_some, channel_nowhere, channel_missing, channel_at, channel_page}
 use Rattle.lsm_format.proofs.Region.{below, region_plane, whole_rows_lem}
 use Rattle.lsm_format.proofs.Sizes.{sample_size_pos}
 use Rattle.lsm_format.proofs.Apart.{no_case}
@@ -98,7 +98,7 @@ module _ (d : Description) (words page : ℕ) where
   some_by n (suc m) h = omega arith
 
   pub start_some : (start : ℕ) → start_of d words page ≡ Some start → 0 < d.strips_per_channel
-  start_some start e = some_by d.dims.c d.strips_per_channel (start_tells start e).0
+  start_some start e = some_by (component_planes d.interleaved d.dims.c) d.strips_per_channel (start_tells start e).0
 
   none_by : (b : Bool) → cond b (Some (page * strips_per_page d)) None ≡ None → b ≡ false
   none_by true e = no_case cc
@@ -116,15 +116,18 @@ module _ (d : Description) (words : ℕ) (co : Coordinate) where
   channel_gone page e s = sym (channel_missing d words co page e (start_missing d words page s))
 
   pub channel_found : (page start : ℕ) → page_of d.layout co ≡ Some page → start_of d words page ≡ Some start
-      → channel_strips d words co ≡ accepted (record { first = start + co.c * d.strips_per_channel; count = d.strips_per_channel })
+      → channel_strips d words co
+      ≡ accepted (record { first = start + plane_of d.interleaved co.c * d.strips_per_channel; count = d.strips_per_channel; sample = own_sample d.interleaved co.c })
   channel_found page start e s =
       let t = start_tells d words page start s in
       rw t.1 (sym (channel_at d words co page e t.0))
 
 -- a channel's strips are in its page
 pub channel_fits : (d : Description) (words start c : ℕ) → c < d.dims.c → 2 * (start + strips_per_page d) ≤ words
-    → 2 * (start + c * d.strips_per_channel + d.strips_per_channel) ≤ words
-channel_fits d words start c h l = omega (arith, suc-mul c d.strips_per_channel, mul-le-mul_right d.strips_per_channel h)
+    → 2 * (start + plane_of d.interleaved c * d.strips_per_channel + d.strips_per_channel) ≤ words
+channel_fits d words start c h l =
+    let plane : ℕ = plane_of d.interleaved c in
+    omega (arith, suc-mul plane d.strips_per_channel, mul-le-mul_right d.strips_per_channel (plane_less d.interleaved c d.dims.c h))
 
 -- ---- the page asked for
 
@@ -178,19 +181,21 @@ module _ (all one : ℕ → Bool) (step : (m : ℕ) → all (suc m) ≡ (all m &
 pub whole_lost : (d : Description) (t : List ℕ) (page : ℕ) → start_of d (length t) page ≡ None → whole_page d t page ≡ false
 whole_lost d t page e = ap (λ (b : Bool). b && whole_channels d t page d.dims.c) (start_missing d (length t) page e)
 
--- the channels of a page that the table has
-module _ (d : Description) (t : List ℕ) (page row : ℕ) (w : row ≡ row_bytes d) where
+-- the channels of a page that the table has, with strips of their own
+module _ (d : Description) (t : List ℕ) (page row : ℕ) (planar : d.interleaved ≡ false) (w : row ≡ row_bytes d) where
   channel_is : (k : ℕ)
       → whole_in row (strips_at t (page * strips_per_page d + k * d.strips_per_channel) d.strips_per_channel) d.dims.y ≡ whole_channel d t (strips_on d page k)
   unfolding whole_channel
-  channel_is k = whole_at row t (page * strips_per_page d + k * d.strips_per_channel) d.strips_per_channel d.dims.y ∙ rw w refl
+  channel_is k =
+      whole_at row t (page * strips_per_page d + k * d.strips_per_channel) d.strips_per_channel d.dims.y
+      ∙ rw w (ap (λ (b : Bool). whole_rows_of (row_bytes d) t (page * strips_per_page d + plane_of b k * d.strips_per_channel) d.strips_per_channel d.dims.y) (sym planar))
 
   channels_listed : (m : ℕ) → list_all (λ k. whole_channel d t (strips_on d page k)) (range_with_len 0 m) ≡ whole_channels d t page m
   unfolding whole_channels
   channels_listed m = all_listed (whole_channels d t page) (λ k. whole_channel d t (strips_on d page k)) (λ k. refl) refl m
 
   pub page_whole : (start : ℕ) → start_of d (length t) page ≡ Some start
-      → list_all (λ strips. whole_in row strips d.dims.y) (first_chunks d.strips_per_channel d.dims.c (strips_at t start (strips_per_page d))) ≡ whole_page d t page
+      → list_all (λ strips. whole_in row strips d.dims.y) (first_chunks d.strips_per_channel d.dims.c (strips_at t start (d.dims.c * d.strips_per_channel))) ≡ whole_page d t page
   page_whole start s =
       let u = start_tells d (length t) page start s in
       let z : start ≡ page * strips_per_page d + 0 * d.strips_per_channel = u.1 ∙ omega (arith, zero-mul d.strips_per_channel) in
@@ -232,6 +237,10 @@ module _ (d : Description) (t : List ℕ) where
 
 -- ---- region's checks by plane's, or by the whole-row test
 
+-- where the last byte of a rectangle stands in strips of a channel's own
+abbrev pub last_byte : Description → Rect → ℕ
+last_byte d r = (r.y + r.h - 1) * (d.dims.x * sample_size d.kind) + ((r.x + r.w) * sample_size d.kind - 1)
+
 -- a size that is answered is that of a picture which isn't oversized
 sized : (a : Answered ℕ Refusal) (m : Result ℕ) → answer_of a ≡ m → is_ok a ≡ true → (n : ℕ) × (m ≡ accepted n)
 sized (Ok n) m e h = (n, sym e)
@@ -242,21 +251,52 @@ module _ (d : Description) (t : List ℕ) (len : ℕ) (co : Coordinate) (r : Rec
       → Lying d r → co.c < d.dims.c → region_strips d t len co r ≡ plane_strips d t len co
   region_by_plane a e h p l k =
       let s = sized a (picture_size d.dims.x d.dims.y d.kind) e h in
-      region_plane d t len co r l.across l.down l.rows s.0 s.1 k (past_not d co p)
+      region_plane d t len co r k l.across l.down l.columns l.rows s.0 s.1 (past_not d co p)
+
+  pub region_interleaved : d.interleaved ≡ true → region_strips d t len co r ≡ plane_strips d t len co
+  unfolding region_strips
+  region_interleaved e = rw e
 
   pub region_broken : whole_rows d t ≡ false → region_strips d t len co r ≡ plane_strips d t len co
   unfolding region_strips
-  region_broken e = rw e
+  region_broken e = ap (λ (b : Bool). strips_by b d t len co r) (ap (λ (b : Bool). not d.interleaved && b) e ∙ and-false (not d.interleaved))
 
-  pub region_whole : whole_rows d t ≡ true → region_strips d t len co r ≡ window_strips d t len co r
+  pub region_whole : d.interleaved ≡ false → whole_rows d t ≡ true → region_strips d t len co r ≡ window_strips d t len co r
   unfolding region_strips
-  region_whole e = rw e
+  region_whole p e = ap (λ (b : Bool). strips_by b d t len co r) (ap₂ {C = Bool} (λ (a b : Bool). not a && b) p e)
 
-  -- where it says yes: the strips lie in the file, and reach to the rectangle's end
-  pub window_at : (n : ℕ) (s : Strips) → picture_size r.w r.h d.kind ≡ accepted n → channel_strips d (length t) co ≡ accepted s
-      → inside t len s.first s.count ≡ true → window_end d r ≤ total t s.first s.count → window_strips d t len co r ≡ accepted s
-  unfolding window_strips row_strips bind
-  window_at n s e h i l = rw (e, h, i, le-leb (window_end d r) (total t s.first s.count) l)
+  -- where a rectangle ends in strips of the channel's own
+  pub planar_end : (s : Strips) → d.interleaved ≡ false → channel_strips d (length t) co ≡ accepted s → 0 < r.w
+      → window_end d s r ≡ (r.y + r.h - 1) * (d.dims.x * sample_size d.kind) + (r.x + r.w) * sample_size d.kind
+  planar_end s p h w =
+      channel_page d (length t) co s h
+      (λ page e there q.
+      let last : ℕ = r.y + r.h - 1 in
+      let size : ℕ = sample_size d.kind in
+      let column : ℕ = r.x + r.w - 1 in
+      let own : s.sample ≡ 0 = ap (λ (k : Strips). k.sample) (sym q) ∙ ap (λ (b : Bool). own_sample b co.c) p in
+      let one : samples_together d.interleaved d.dims.c ≡ 1 = ap (λ (b : Bool). samples_together b d.dims.c) p in
+      let next : r.x + r.w ≡ suc column = omega arith in
+      let part : (r.x + r.w) * size ≡ column * size + size = ap (λ (k : ℕ). k * size) next ∙ suc-mul column size in
+      ap₂ {C = ℕ} (λ (m o : ℕ). ((last * d.dims.x + column) * m + o) * size + size) one own
+      ∙ rw (mul-one, add-zero, add-mul, mul_assoc) (omega (arith, part)))
+
+  -- where the whole-row test says yes: the strips lie in the file, and reach to the rectangle's end, or not
+  module _ (n : ℕ) (s : Strips) (planar : d.interleaved ≡ false) (some : 0 < r.w) (e : picture_size r.w r.h d.kind ≡ accepted n) (h : channel_strips d (length t) co ≡ accepted s) where
+    pub window_reached : inside t len s.first s.count ≡ true → last_byte d r < total t s.first s.count → accepted s ≡ window_strips d t len co r
+    unfolding window_strips row_strips bind
+    window_reached i l = rw (e, h, i, le-leb (window_end d s r) (total t s.first s.count) (omega (arith, planar_end s planar h some)))
+
+    pub window_short : inside t len s.first s.count ≡ true → total t s.first s.count ≤ last_byte d r → refused decode ≡ window_strips d t len co r
+    unfolding window_strips row_strips bind
+    window_short i l =
+        let columns : 1 ≤ r.x + r.w = omega arith in
+        let one : 1 * 1 ≤ (r.x + r.w) * sample_size d.kind = mul-le-mul columns (sample_size_pos d.kind) in
+        rw (e, h, i, lt-leb (window_end d s r) (total t s.first s.count) (omega (arith, planar_end s planar h some, one)))
+
+    pub window_outside : inside t len s.first s.count ≡ false → refused decode ≡ window_strips d t len co r
+    unfolding window_strips row_strips bind
+    window_outside i = rw (e, h, i)
 
 -- the numbers of a rectangle where the whole-row test says yes
 pub record Reckoned (d : Description) (r : Rect) : Type 0 where

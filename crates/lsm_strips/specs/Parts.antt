@@ -9,7 +9,7 @@ use Rattle.lsm_strips.specs.declared.StripRun.{StripRun}
 
 -- The strips that a picture is read from.
 abbrev pub strips_of : StripRun → Rule.Strips
-strips_of s = record { first = s.first; count = s.count }
+strips_of s = record { first = s.first; count = s.count; sample = s.sample }
 
 -- The first strip of a page that the table has.
 unfoldable pub start_of : Description → ℕ → ℕ → Option ℕ

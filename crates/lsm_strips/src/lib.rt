@@ -18,22 +18,31 @@ use lsm_description::Description;
 use lsm_format::error::Refusal;
 use lsm_format::types::{Coordinate, PixelRect, checked_region};
 
-// Strips that follow one another in the table: the first, and how many they are.
+// The strips that a channel is read from, which follow one another in the table: the first, and how many they are; and which sample of a pixel
+// there is the channel's own.
 #[derive(Clone, Copy)]
 pub struct StripRun {
     pub first: usize,
     pub count: usize,
+    pub sample: usize,
+}
+
+// Strips that follow one another: where each starts, and its bytes. None where the table doesn't have all of them.
+#[tactic(auto, using(crate::proofs::Pairs::run_at))]
+fn strips_at(table: &[usize], first: usize, count: usize) -> Option<&[[usize; 2]]>
+    ensures { MatchOption result (length table.now < 2 * (first + count)) (λ strips. (2 * (first + count) ≤ length table.now) × (strips.now ≡ strips_at table.now first count)) }
+{
+    let (strips, _) = table.as_chunks();
+    let end = first.checked_add(count)?;
+    strips.get(first..end)
 }
 
 impl StripRun {
-    // The strips themselves: where each starts, and its bytes. None where the table doesn't have all of them.
-    #[tactic(auto, using(crate::proofs::Pairs::run_at))]
+    // The strips themselves.
     pub fn of(self, table: &[usize]) -> Option<&[[usize; 2]]>
         ensures { MatchOption result (length table.now < 2 * (self.first + self.count)) (λ strips. (2 * (self.first + self.count) ≤ length table.now) × (strips.now ≡ strips_at table.now self.first self.count)) }
     {
-        let (strips, _) = table.as_chunks();
-        let end = self.first.checked_add(self.count)?;
-        strips.get(self.first..end)
+        strips_at(table, self.first, self.count)
     }
 }
 
@@ -77,7 +86,11 @@ pub fn region_from(
     checked_scene(d, co.scene)?;
     checked_region(d.dims, co, rect)?;
     if rect.is_empty() {
-        return Ok(StripRun { first: 0, count: 0 });
+        return Ok(StripRun {
+            first: 0,
+            count: 0,
+            sample: 0,
+        });
     }
     let asked = Asked { d, table, len, co };
     asked.region_strips(rect)

@@ -1,14 +1,14 @@
 // Where a picture's strips stand in the table, and whether all pages' strips hold whole rows. A handed-in description can name any
 // page, so every product is tested before it is used.
-ghost use Rattle.std.specs.Prelude.{◌≡◌, true, ◌*◌, ◌<◌, length};
+ghost use Rattle.std.specs.Prelude.{◌≡◌, true, false, ◌*◌, ◌<◌, length};
 ghost use Rattle.lsm_format.specs.Code.{answer_by, coordinate_of};
-ghost use Rattle.lsm_format.specs.Picture.{channel_strips, row_bytes, whole_page, whole_rows};
+ghost use Rattle.lsm_format.specs.Picture.{plane_of, own_sample, channel_strips, row_bytes, whole_page, whole_rows};
 ghost use Rattle.lsm_format.specs.Words.{word};
 ghost use Rattle.lsm_description.specs.Code.{description_of};
 ghost use Rattle.lsm_strips.specs.Parts.{strips_of, past_test, start_of};
 
 use crate::strips::strips_of_rows;
-use crate::{Asked, StripRun};
+use crate::{Asked, StripRun, strips_at};
 use lsm_description::Description;
 use lsm_format::checked::checked_mul;
 use lsm_format::error::Refusal;
@@ -19,11 +19,25 @@ use lsm_format::types::Coordinate;
 fn page_start(d: Description, words: usize, page: usize) -> Option<usize>
     ensures { result ≡ start_of (description_of d) words page }
 {
-    let strips = checked_mul(d.dims.c, d.strips_per_channel)?;
+    let strips = checked_mul(d.component_planes(), d.strips_per_channel)?;
     if strips == 0 || words / 2 / strips <= page {
         return None;
     }
     Some(page * strips)
+}
+
+// The component plane that has a channel: its own, or the one that has all.
+fn plane_of(interleaved: bool, c: usize) -> usize
+    ensures { result ≡ plane_of interleaved c }
+{
+    if interleaved { 0 } else { c }
+}
+
+// Which sample of a pixel there is the channel's own.
+fn own_sample(interleaved: bool, c: usize) -> usize
+    ensures { result ≡ own_sample interleaved c }
+{
+    if interleaved { c } else { 0 }
 }
 
 impl Asked<'_> {
@@ -46,8 +60,9 @@ impl Asked<'_> {
         let start = page_start(self.d, self.table.len(), page).ok_or(outside)?;
         let count = self.d.strips_per_channel;
         Ok(StripRun {
-            first: start + c * count,
+            first: start + plane_of(self.d.interleaved, c) * count,
             count,
+            sample: own_sample(self.d.interleaved, c),
         })
     }
 
@@ -66,17 +81,18 @@ impl Asked<'_> {
         pages <= page
     }
 
-    // Whether the table has a page, and each of its channels holds whole rows.
+    // Whether the table has a page, and each of its channels, which have strips of their own, holds whole rows.
     #[tactic(auto, using(crate::proofs::Judging::start_tells, crate::proofs::Judging::whole_lost))]
     fn whole_page(self, page: usize, row: usize) -> bool
-        requires { (row ≡ row_bytes (description_of self.d)) × (0 < row) }
+        requires planar { self.d.interleaved ≡ false }
+        requires row { (row ≡ row_bytes (description_of self.d)) × (0 < row) }
         ensures { result ≡ whole_page (description_of self.entry.d) self.entry.table.now page }
     {
         let Some(first) = page_start(self.d, self.table.len(), page) else {
             return false;
         };
         let count = self.d.dims.c * self.d.strips_per_channel;
-        let strips = StripRun { first, count }.of(self.table).unwrap();
+        let strips = strips_at(self.table, first, count).unwrap();
         strips
             .chunks_exact(self.d.strips_per_channel)
             .all(|channel| strips_of_rows(channel, row, self.d.dims.y))
@@ -86,6 +102,7 @@ impl Asked<'_> {
     // above: a `NonZeroUsize` would be taken apart at each use, and what it is a product of would stand beside it all the same.
     #[tactic(auto, using(crate::proofs::Judging::whole_wide, crate::proofs::Judging::whole_empty))]
     pub(crate) fn whole_rows(self) -> bool
+        requires { self.d.interleaved ≡ false }
         ensures { result ≡ whole_rows (description_of self.entry.d) self.entry.table.now }
     {
         let Some(row) = self.row_bytes() else {

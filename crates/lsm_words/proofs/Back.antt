@@ -15,8 +15,8 @@ use Rattle.lsm_format.specs.Sizes.{Kind, u8, u16, i16, f32}
 use Rattle.lsm_format.specs.Calibration.{ZStep, used, absent, placeholder, too_large, Calibration, uncalibrated, sized}
 use Rattle.lsm_format.specs.Open.{Description}
 use Rattle.lsm_words.specs.Calibration.{float_word, step_words, size_words, chosen, float_by, step_by, sized_by, size_by}
-use Rattle.lsm_words.specs.Description.{order_word, kind_word, block_words, description_words}
-use Rattle.lsm_words.specs.Description.{order_by, kind_by, block_by, described_by}
+use Rattle.lsm_words.specs.Description.{order_word, kind_word, block_words, interleaved_word, description_words}
+use Rattle.lsm_words.specs.Description.{order_by, kind_by, block_by, interleaved_by, described_by}
 
 -- ---- floats that are f32s, and none a NaN
 
@@ -47,6 +47,11 @@ kind_back u8 = refl
 kind_back u16 = refl
 kind_back i16 = refl
 kind_back f32 = refl
+
+interleaved_back : (b : Bool) → interleaved_by (interleaved_word b) ≡ accepted b
+unfolding interleaved_by chosen
+interleaved_back false = refl
+interleaved_back true = refl
 
 not_nan : (t : Bool) → T (not t) → t ≡ false
 not_nan true h = absurd h
@@ -97,6 +102,6 @@ pub read_back : (d : Description) → NumberSize d.calibration → described_by 
 unfolding described_by description_words bind
 read_back d h =
     let s = d.calibration in
-    let rest = d.layout.t ∷ [] in
+    let rest = d.layout.t ∷ interleaved_word d.interleaved ∷ [] in
     let b = block_words d.channel_block ++ rest in
-    rw (order_back d.order, kind_back d.kind, size_back s b h, after_size s b 0, after_size s b 1, after_size s b 2, block_back d.channel_block rest, after_block d.channel_block rest 0)
+    rw (order_back d.order, kind_back d.kind, size_back s b h, after_size s b 0, after_size s b 1, after_size s b 2, after_size s b 3, block_back d.channel_block rest, after_block d.channel_block rest 0, after_block d.channel_block rest 1, interleaved_back d.interleaved)

@@ -4,7 +4,7 @@ ghost use Rattle.lsm_format.specs.Code.{order_of, kind_of, answer_of, answer_by}
 ghost use Rattle.lsm_description.specs.Code.{description_of};
 ghost use Rattle.lsm_words.specs.Answers.{name_words};
 ghost use Rattle.lsm_words.specs.Description.{block_words, description_words};
-ghost use Rattle.lsm_words.specs.Description.{order_by, kind_by, block_by, described_by};
+ghost use Rattle.lsm_words.specs.Description.{order_by, kind_by, block_by, interleaved_by, described_by};
 
 use crate::sizes::{size_of, size_words};
 use lsm_description::Description;
@@ -13,7 +13,7 @@ use lsm_format::types::{DType, Dims5, Endian};
 use lsm_positions::LsmLayout;
 
 // How many words a description has. Those that a request adds stand at the end.
-pub const DESCRIPTION_WORDS: usize = 18;
+pub const DESCRIPTION_WORDS: usize = 19;
 
 // Whether there is a number, and the number: a channel block's place, or a name's length.
 #[tactic(auto, unfolding(crate::specs::Description::block_words, crate::specs::Answers::name_words))]
@@ -53,6 +53,7 @@ pub fn description_words(d: Description) -> [usize; DESCRIPTION_WORDS]
         there,
         place,
         d.layout.time_points,
+        d.interleaved as usize,
     ]
 }
 
@@ -80,6 +81,18 @@ fn kind_of(word: usize) -> Result<DType, Refusal>
         1 => Ok(DType::U16),
         2 => Ok(DType::I16),
         3 => Ok(DType::F32),
+        _ => Err(Refusal::Decode),
+    }
+}
+
+// Whether the channels are interleaved, as a word says it.
+#[tactic(auto, unfolding(crate::specs::Description::interleaved_by, crate::specs::Calibration::chosen))]
+fn flag_of(word: usize) -> Result<bool, Refusal>
+    ensures { answer_of result ≡ interleaved_by word }
+{
+    match word {
+        0 => Ok(false),
+        1 => Ok(true),
         _ => Err(Refusal::Decode),
     }
 }
@@ -120,6 +133,7 @@ pub fn read_description(words: &[usize; DESCRIPTION_WORDS]) -> Result<Descriptio
         there,
         place,
         time_points,
+        interleaved,
     ] = *words;
     Ok(Description {
         endian: order_of(order)?,
@@ -133,5 +147,6 @@ pub fn read_description(words: &[usize; DESCRIPTION_WORDS]) -> Result<Descriptio
         strips_per_channel,
         calibration: size_of([sized, x_bits, y_bits, step, step_bits])?,
         channel_colors_offset: block_of([there, place])?,
+        interleaved: flag_of(interleaved)?,
     })
 }

@@ -18,17 +18,18 @@ use Rattle.lsm_format.specs.Lent.{lend}
 use Rattle.lsm_format.specs.Calibration.{uncalibrated}
 use Rattle.lsm_format.specs.Channels.{lookup, channel_in, pointers, color, color_at, name, name_span}
 use Rattle.lsm_format.specs.Open.{Description}
-use Rattle.lsm_format.specs.Picture.{Samples, scene_there, coordinate_there, plane, plane_from, plane_strips, in_turn, channel_strips, inside, total, samples_in, channel_picture, window, span, picture, bytes, stored, place, each_sample, region, region_from, region_strips, whole_rows, whole_pages, whole_channels, whole_channel, whole_rows_of, whole_strips, rows_in, row_strips, window_strips, into}
+use Rattle.lsm_format.specs.Picture.{Samples, scene_there, coordinate_there, plane, plane_from, joined_size, plane_strips, in_turn, channel_strips, inside, total, samples_in, channel_picture, window, span, stored_picture, bytes, stored, place, each_sample, region, region_from, region_strips, whole_rows, whole_pages, whole_channels, whole_channel, whole_rows_of, whole_strips, rows_in, row_strips, window_strips, into}
 use Rattle.lsm_format.specs.Listed.{span_ranges, sample_ranges, window_ranges, region_ranges}
 
--- One time point; so many channels, planes, rows and columns; scenes of so many pages; strips of a channel.
-abbrev described : Kind → ℕ → ℕ → ℕ → ℕ → ℕ → ℕ → ℕ → Description
+-- Planar, one time point; so many channels, planes, rows and columns; scenes of so many pages; strips of a channel.
+abbrev pub described : Kind → ℕ → ℕ → ℕ → ℕ → ℕ → ℕ → ℕ → Description
 described kind c z y x scenes depth strips =
     record {
       order = little;
       kind = kind;
       dims = record { t = 1; c = c; z = z; y = y; x = x };
       layout = record { scenes = scenes; t = 1; depth = depth };
+      interleaved = false;
       strips_per_channel = strips;
       calibration = uncalibrated;
       channel_block = None;
@@ -82,7 +83,7 @@ plane_order :
     -- "buffer last"
     × (into (plane (single u8 1 2 1) (1 ∷ 2 ∷ []) four (coordinate 0 0 0 0)) 1 ≡ refused (7 ∷ 2 ∷ []))
     × (into (plane (single u8 1 2 1) (1 ∷ 2 ∷ []) four (coordinate 0 0 0 0)) 2 ≡ samples 1 2 (11 ∷ 12 ∷ []))
-unfolding plane plane_from into lend scene_there coordinate_there coordinates plane_strips in_turn picture_size unlimited_size word channel_strips page_of inside total samples_in channel_picture window span picture bytes stored place each_sample bind
+unfolding plane plane_from into lend scene_there coordinate_there coordinates joined_size plane_strips in_turn picture_size unlimited_size word channel_strips page_of inside total samples_in channel_picture window span stored_picture bytes stored place each_sample bind
 plane_order = (refl, refl, refl, refl, refl, refl, refl, refl, refl, refl, refl, refl, refl, refl, refl, refl, refl, refl)
 
 -- "strips in turn, each within the file, then within the picture's size; their total", with 13 for a strip outside the file and 14 for bytes
@@ -117,17 +118,18 @@ joined :
     -- the second channel's strip; the second page's
     × (plane (described u8 2 1 1 1 1 1 1) (0 ∷ 1 ∷ 3 ∷ 1 ∷ []) four (coordinate 0 0 1 0) ≡ samples 1 1 (13 ∷ []))
     × (plane (described u8 1 1 1 1 2 1 1) (0 ∷ 1 ∷ 3 ∷ 1 ∷ []) four (coordinate 1 0 0 0) ≡ samples 1 1 (13 ∷ []))
-unfolding plane plane_from region region_from scene_there coordinate_there coordinates rectangle plane_strips in_turn region_strips row_strips window_strips whole_rows whole_pages whole_channels whole_channel whole_rows_of whole_strips rows_in picture_size unlimited_size word channel_strips page_of inside total samples_in channel_picture window span picture bytes stored place each_sample bind
+unfolding plane plane_from region region_from scene_there coordinate_there coordinates rectangle joined_size plane_strips in_turn region_strips row_strips window_strips whole_rows whole_pages whole_channels whole_channel whole_rows_of whole_strips rows_in picture_size unlimited_size word channel_strips page_of inside total samples_in channel_picture window span stored_picture bytes stored place each_sample bind
 joined = (refl, refl, refl, refl, refl)
 
 -- the same description in big-endian order
-abbrev turned : Description → Description
+abbrev pub turned : Description → Description
 turned d =
     record {
       order = big;
       kind = d.kind;
       dims = d.dims;
       layout = d.layout;
+      interleaved = d.interleaved;
       strips_per_channel = d.strips_per_channel;
       calibration = d.calibration;
       channel_block = d.channel_block;
@@ -138,7 +140,7 @@ turned_round :
     (plane (turned (single u16 1 2 2)) (0 ∷ 3 ∷ 3 ∷ 1 ∷ []) four (coordinate 0 0 0 0) ≡ samples 1 2 (11 ∷ 10 ∷ 13 ∷ 12 ∷ []))
     × (region (turned (single u16 1 2 2)) (0 ∷ 3 ∷ 3 ∷ 1 ∷ []) four (coordinate 0 0 0 0) (rect 1 0 1 1) ≡ samples 1 1 (13 ∷ 12 ∷ []))
     × (plane (turned (single f32 1 1 1)) (0 ∷ 4 ∷ []) four (coordinate 0 0 0 0) ≡ samples 1 1 (13 ∷ 12 ∷ 11 ∷ 10 ∷ []))
-unfolding plane plane_from region region_from scene_there coordinate_there coordinates rectangle plane_strips in_turn region_strips row_strips window_strips whole_rows whole_pages whole_channels whole_channel whole_rows_of whole_strips rows_in picture_size unlimited_size word channel_strips page_of inside total samples_in channel_picture window span picture bytes stored place each_sample bind
+unfolding plane plane_from region region_from scene_there coordinate_there coordinates rectangle joined_size plane_strips in_turn region_strips row_strips window_strips whole_rows whole_pages whole_channels whole_channel whole_rows_of whole_strips rows_in picture_size unlimited_size word channel_strips page_of inside total samples_in channel_picture window span stored_picture bytes stored place each_sample bind
 turned_round = (refl, refl, refl)
 
 -- "of the strips only the places of its samples in the channel's joined strips"
@@ -147,7 +149,7 @@ sample_places :
     (flat (region_ranges (single u8 2 2 2) (1 ∷ 3 ∷ 0 ∷ 1 ∷ []) four (coordinate 0 0 0 0) (rect 1 0 1 2)) ≡ (2, 1) ∷ (0, 1) ∷ [])
     -- a sample that two strips share
     × (flat (region_ranges (single u16 1 2 2) (0 ∷ 3 ∷ 0 ∷ 1 ∷ []) four (coordinate 0 0 0 0) (rect 1 0 1 1)) ≡ (2, 1) ∷ (0, 1) ∷ [])
-unfolding region_ranges window_ranges sample_ranges span_ranges over flat region_from scene_there coordinate_there coordinates rectangle plane_strips in_turn region_strips row_strips window_strips whole_rows whole_pages whole_channels whole_channel whole_rows_of whole_strips rows_in picture_size unlimited_size word channel_strips page_of inside total place bind
+unfolding region_ranges window_ranges sample_ranges span_ranges over flat region_from scene_there coordinate_there coordinates rectangle joined_size plane_strips in_turn region_strips row_strips window_strips whole_rows whole_pages whole_channels whole_channel whole_rows_of whole_strips rows_in picture_size unlimited_size word channel_strips page_of inside total place bind
 sample_places = (refl, refl)
 
 -- ---- region
@@ -176,7 +178,7 @@ region_order :
     -- "buffer last"
     × (into (region (single u8 1 2 1) (1 ∷ 2 ∷ []) four (coordinate 0 0 0 0) (rect 1 0 1 1)) 0 ≡ refused (7 ∷ 1 ∷ []))
     × (into (region (single u8 1 2 1) (1 ∷ 2 ∷ []) four (coordinate 0 0 0 0) (rect 1 0 0 1)) 0 ≡ samples 1 0 [])
-unfolding region region_from into lend scene_there coordinate_there coordinates rectangle plane_strips in_turn region_strips row_strips window_strips whole_rows whole_pages whole_channels whole_channel whole_rows_of whole_strips rows_in picture_size unlimited_size word channel_strips page_of inside total samples_in channel_picture window span picture bytes stored place each_sample bind
+unfolding region region_from into lend scene_there coordinate_there coordinates rectangle joined_size plane_strips in_turn region_strips row_strips window_strips whole_rows whole_pages whole_channels whole_channel whole_rows_of whole_strips rows_in picture_size unlimited_size word channel_strips page_of inside total samples_in channel_picture window span stored_picture bytes stored place each_sample bind
 region_order = (refl, refl, refl, refl, refl, refl, refl, refl, refl, refl, refl, refl, refl, refl, refl)
 
 -- ---- the whole-row test
@@ -217,7 +219,7 @@ layout_pages :
     -- "So region may accept where plane is oversized": by rows it is the strip outside the file that is refused, by plane's checks the size
     × (region (layered 2 1 (2 ^ 33)) (0 ∷ 2 ^ 33 ∷ 0 ∷ 3 ∷ []) four (coordinate 0 0 0 0) (rect 0 0 1 1) ≡ refused (2 ∷ []))
     × (region (layered 1 2 (2 ^ 33)) (0 ∷ 2 ^ 33 ∷ 0 ∷ 3 ∷ []) four (coordinate 0 0 0 0) (rect 0 0 1 1) ≡ refused (4 ∷ 2 ^ 33 ∷ 4294967296 ∷ []))
-unfolding region region_from scene_there coordinate_there coordinates rectangle plane_strips in_turn region_strips row_strips window_strips whole_rows whole_pages whole_channels whole_channel whole_rows_of whole_strips rows_in picture_size unlimited_size word channel_strips page_of inside total samples_in channel_picture window span picture bytes stored place each_sample bind
+unfolding region region_from scene_there coordinate_there coordinates rectangle joined_size plane_strips in_turn region_strips row_strips window_strips whole_rows whole_pages whole_channels whole_channel whole_rows_of whole_strips rows_in picture_size unlimited_size word channel_strips page_of inside total samples_in channel_picture window span stored_picture bytes stored place each_sample bind
 layout_pages = (refl, refl, refl, refl, refl, refl)
 
 -- ---- lent memory
@@ -285,7 +287,7 @@ past_the_test :
     × (region (described u8 1 2 1 2 1 1 1) (0 ∷ 3 ∷ 0 ∷ 3 ∷ []) four (coordinate 0 0 0 1) (rect 0 0 2 1) ≡ refused (2 ∷ []))
     -- z past the depth of a scene may still be a page of the test
     × (region (described u8 1 2 1 2 2 1 1) (0 ∷ 2 ∷ 0 ∷ 3 ∷ []) four (coordinate 0 0 0 1) (rect 0 0 2 1) ≡ refused (2 ∷ []))
-unfolding plane plane_from region region_from scene_there coordinate_there coordinates rectangle plane_strips in_turn region_strips row_strips window_strips whole_rows whole_pages whole_channels whole_channel whole_rows_of whole_strips rows_in picture_size unlimited_size word channel_strips page_of inside total samples_in channel_picture window span picture bytes stored place each_sample bind
+unfolding plane plane_from region region_from scene_there coordinate_there coordinates rectangle joined_size plane_strips in_turn region_strips row_strips window_strips whole_rows whole_pages whole_channels whole_channel whole_rows_of whole_strips rows_in picture_size unlimited_size word channel_strips page_of inside total samples_in channel_picture window span stored_picture bytes stored place each_sample bind
 past_the_test = (refl, refl, refl, refl, refl, refl, refl, refl, refl, refl)
 
 -- "an outcome that they leave free is named": a sample that is not in the joined strips
@@ -298,7 +300,7 @@ missing_sample :
     × (region (described u8 1 2 2 2 1 1 1) (0 ∷ 4 ∷ 1 ∷ 3 ∷ []) four (coordinate 0 0 0 1) (rect 1 0 1 1) ≡ samples 1 1 (12 ∷ []))
     -- half a sample isn't one
     × (region (described u16 1 1 1 2 1 0 1) (0 ∷ 3 ∷ []) four (coordinate 0 0 0 0) (rect 1 0 1 1) ≡ refused (2 ∷ []))
-unfolding region region_from scene_there coordinate_there coordinates rectangle plane_strips in_turn region_strips row_strips window_strips whole_rows whole_pages whole_channels whole_channel whole_rows_of whole_strips rows_in picture_size unlimited_size word channel_strips page_of inside total samples_in channel_picture window span picture bytes stored place each_sample bind
+unfolding region region_from scene_there coordinate_there coordinates rectangle joined_size plane_strips in_turn region_strips row_strips window_strips whole_rows whole_pages whole_channels whole_channel whole_rows_of whole_strips rows_in picture_size unlimited_size word channel_strips page_of inside total samples_in channel_picture window span stored_picture bytes stored place each_sample bind
 missing_sample = (refl, refl, refl, refl, refl)
 
 -- ---- another input of docs/DIFFERENCES.md
@@ -306,5 +308,5 @@ missing_sample = (refl, refl, refl, refl, refl)
 rows_past_64_bits :
     -- a channel's rows that pass 64 bits: the whole-row test says no
     region (single u8 (2 ^ 33) 1 2) (0 ∷ (2 ^ 64 - 1) ∷ 0 ∷ (2 ^ 33 + 1) ∷ []) four (coordinate 0 0 0 0) (rect 0 0 1 1) ≡ refused (4 ∷ 8589934592 ∷ 4294967296 ∷ [])
-unfolding region region_from scene_there coordinate_there coordinates rectangle plane_strips in_turn region_strips row_strips window_strips whole_rows whole_pages whole_channels whole_channel whole_rows_of whole_strips rows_in picture_size unlimited_size word channel_strips page_of inside total samples_in channel_picture window span picture bytes stored place each_sample bind
+unfolding region region_from scene_there coordinate_there coordinates rectangle joined_size plane_strips in_turn region_strips row_strips window_strips whole_rows whole_pages whole_channels whole_channel whole_rows_of whole_strips rows_in picture_size unlimited_size word channel_strips page_of inside total samples_in channel_picture window span stored_picture bytes stored place each_sample bind
 rows_past_64_bits = refl

@@ -5,3 +5,4 @@ pub mod Second
 pub mod Third
 pub mod Handed
 pub mod Series
+pub mod Interleaved

@@ -14,7 +14,7 @@ use Rattle.lsm_format.specs.CzInfo.{cz_info, header, extents, voxels, channel_bl
 use Rattle.lsm_format.specs.Channels.{pointers, name_record, color_at_ranges, color_ranges, record_ranges, name_ranges, channels_ranges, channel_ranges}
 use Rattle.lsm_format.specs.Directory.{directory, ends, entries, entry, scalar, scalar_values, array, array_values, entry_values, value_at, values_at, value_place, type_size, integer_size, entry_ranges, entries_ranges, directory_ranges}
 use Rattle.lsm_format.specs.Open.{read, tiff_header, walk, chain, join, agrees, describe_walk, agreement, layout_for, describe, chain_ranges, walk_ranges, open_ranges}
-use Rattle.lsm_format.specs.Picture.{place, inside, total, channel_strips, scene_there, coordinate_there, plane_strips, in_turn, whole_strips, rows_in, whole_channel, whole_rows_of, whole_channels, whole_pages, whole_rows, row_strips, window_strips, region_strips, region_from}
+use Rattle.lsm_format.specs.Picture.{place, inside, total, channel_strips, scene_there, coordinate_there, joined_size, plane_strips, in_turn, whole_strips, rows_in, whole_channel, whole_rows_of, whole_channels, whole_pages, whole_rows, row_strips, window_strips, region_strips, region_from}
 use Rattle.lsm_format.specs.Listed.{strips_ranges, listed, span_ranges, sample_ranges, window_ranges, region_ranges, listed_for}
 
 -- Little-endian, 480 bytes. The numbers in front are places in the file; those of the CZ block's parts are counted from its start.
@@ -134,5 +134,5 @@ row = record { x = 0; y = 1; w = 2; h = 1 }
 -- "For one rectangle, of the strips only the places of its samples in the channel's joined strips": the last byte of the first strip, and
 -- the second strip. None of the channel block.
 row_lists : flat (listed_for H (coordinate 0 0 0 0) row) ≡ H-open ++ (476, 1) ∷ (478, 1) ∷ []
-unfolding listed_for region_ranges region_from window_ranges sample_ranges span_ranges place scene_there coordinate_there coordinates rectangle region_strips plane_strips in_turn total whole_rows whole_pages whole_channels whole_channel whole_rows_of whole_strips rows_in row_strips window_strips picture_size unlimited_size channel_strips page_of inside read describe_walk agreement layout_for describe cz_info extents voxels channel_block shots layout scenes pages_expected word open_ranges walk_ranges chain_ranges directory_ranges entries_ranges entry_ranges cz_ranges over in_file flat tiff_header walk chain join agrees directory ends entries entry scalar scalar_values array array_values entry_values value_at values_at value_place type_size integer_size header i32_at signed32 number_at part_at bind
+unfolding listed_for region_ranges region_from window_ranges sample_ranges span_ranges place scene_there coordinate_there coordinates rectangle region_strips joined_size plane_strips in_turn total whole_rows whole_pages whole_channels whole_channel whole_rows_of whole_strips rows_in row_strips window_strips picture_size unlimited_size channel_strips page_of inside read describe_walk agreement layout_for describe cz_info extents voxels channel_block shots layout scenes pages_expected word open_ranges walk_ranges chain_ranges directory_ranges entries_ranges entry_ranges cz_ranges over in_file flat tiff_header walk chain join agrees directory ends entries entry scalar scalar_values array array_values entry_values value_at values_at value_place type_size integer_size header i32_at signed32 number_at part_at bind
 row_lists = refl

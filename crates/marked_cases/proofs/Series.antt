@@ -2,6 +2,7 @@
 -- week; pages of a layout; and what a handed-in description with a T of its own asks for. Words in quotation marks are document 02's, or document 01's.
 use Prim.Native.Nat.{ℕ, ◌+◌, ◌-◌, ◌^◌}
 use mathlib.Core.Path.{◌≡◌, refl}
+use mathlib.Core.Bool.{false}
 use mathlib.Core.List.{List, [], ◌∷◌, ◌++◌}
 use Rattle.std.specs.Prelude.{None, Some}
 use lib.ListN.{set}
@@ -18,7 +19,7 @@ use Rattle.lsm_format.specs.CzInfo.{cz_info, header, extents, voxels, channel_bl
 use Rattle.lsm_format.specs.Channels.{channels_ranges, channel_ranges}
 use Rattle.lsm_format.specs.Directory.{directory, ends, entries, entry, scalar, scalar_values, array, array_values, entry_values, value_at, values_at, value_place, type_size, integer_size, entry_ranges, entries_ranges, directory_ranges}
 use Rattle.lsm_format.specs.Open.{Description, Opened, open_file, read, tiff_header, walk, chain, join, agrees, describe_walk, agreement, layout_for, describe, chain_ranges, walk_ranges, open_ranges}
-use Rattle.lsm_format.specs.Picture.{Samples, scene_there, coordinate_there, plane, plane_from, plane_strips, in_turn, channel_strips, inside, total, samples_in, channel_picture, window, span, picture, bytes, stored, place, each_sample, region, region_from, region_strips, whole_rows, whole_pages, whole_channels, whole_channel, whole_rows_of, whole_strips, rows_in, row_strips, window_strips}
+use Rattle.lsm_format.specs.Picture.{Samples, scene_there, coordinate_there, plane, plane_from, joined_size, plane_strips, in_turn, channel_strips, inside, total, samples_in, channel_picture, window, span, stored_picture, bytes, stored, place, each_sample, region, region_from, region_strips, whole_rows, whole_pages, whole_channels, whole_channel, whole_rows_of, whole_strips, rows_in, row_strips, window_strips}
 use Rattle.lsm_format.specs.Listed.{strips_ranges, listed, span_ranges, sample_ranges, window_ranges, region_ranges, listed_for}
 use Rattle.marked_cases.specs.Marked.{G, G-with, G-opened}
 use Rattle.marked_cases.proofs.Handed.{rect, samples, four}
@@ -38,7 +39,7 @@ stated = (refl, refl, refl)
 -- ---- a file of three weeks
 
 -- An entry of type 3: its tag, 256 and so much, its count, and two values of 16 bits below 256.
-abbrev short : ℕ → ℕ → ℕ → ℕ → List ℕ
+abbrev pub short : ℕ → ℕ → ℕ → ℕ → List ℕ
 short tag count a b = tag ∷ 1 ∷ 3 ∷ 0 ∷ count ∷ 0 ∷ 0 ∷ 0 ∷ a ∷ 0 ∷ b ∷ 0 ∷ []
 
 -- The entries of a page: width 2, height 1, bits 8, two strip offsets, samples per pixel 2, two byte counts of 2, planar configuration 2. The two
@@ -79,6 +80,7 @@ W-opened =
             kind = u8;
             dims = record { t = 3; c = 2; z = 2; y = 1; x = 2 };
             layout = record { scenes = 1; t = 3; depth = 2 };
+            interleaved = false;
             strips_per_channel = 1;
             calibration = uncalibrated;
             channel_block = None;
@@ -117,7 +119,7 @@ pictures :
     × (plane_at 2 1 1 ≡ samples 1 2 (62 ∷ 63 ∷ []))
     × (plane_at 3 0 0 ≡ refused (6 ∷ 0 ∷ 3 ∷ 0 ∷ 0 ∷ []))
     × (region W-opened.description W-opened.table W (coordinate 0 2 1 0) column ≡ samples 1 1 (53 ∷ []))
-unfolding plane plane_from region region_from scene_there coordinate_there coordinates rectangle plane_strips in_turn region_strips row_strips window_strips whole_rows whole_pages whole_channels whole_channel whole_rows_of whole_strips rows_in picture_size unlimited_size word channel_strips page_of inside total samples_in channel_picture window span picture bytes stored place each_sample bind
+unfolding plane plane_from region region_from scene_there coordinate_there coordinates rectangle joined_size plane_strips in_turn region_strips row_strips window_strips whole_rows whole_pages whole_channels whole_channel whole_rows_of whole_strips rows_in picture_size unlimited_size word channel_strips page_of inside total samples_in channel_picture window span stored_picture bytes stored place each_sample bind
 pictures = (refl, refl, refl, refl, refl, refl, refl, refl)
 
 -- ---- its list
@@ -139,7 +141,7 @@ all_lists = refl
 
 -- "of the strips only the places of its samples": of the last week's first plane, the second channel's second sample
 pub last_week_lists : flat (listed_for W (coordinate 0 2 1 0) column) ≡ W-open ++ (55, 1) ∷ []
-unfolding listed_for region_ranges region_from window_ranges sample_ranges span_ranges place scene_there coordinate_there coordinates rectangle region_strips plane_strips in_turn total whole_rows whole_pages whole_channels whole_channel whole_rows_of whole_strips rows_in row_strips window_strips picture_size unlimited_size channel_strips page_of inside open_ranges walk_ranges chain_ranges directory_ranges entries_ranges entry_ranges cz_ranges over in_file flat read describe_walk agreement layout_for describe cz_info extents voxels channel_block shots layout scenes pages_expected word tiff_header walk chain join agrees directory ends entries entry scalar scalar_values array array_values entry_values value_at values_at value_place type_size integer_size header i32_at signed32 number_at part_at bind
+unfolding listed_for region_ranges region_from window_ranges sample_ranges span_ranges place scene_there coordinate_there coordinates rectangle region_strips joined_size plane_strips in_turn total whole_rows whole_pages whole_channels whole_channel whole_rows_of whole_strips rows_in row_strips window_strips picture_size unlimited_size channel_strips page_of inside open_ranges walk_ranges chain_ranges directory_ranges entries_ranges entry_ranges cz_ranges over in_file flat read describe_walk agreement layout_for describe cz_info extents voxels channel_block shots layout scenes pages_expected word tiff_header walk chain join agrees directory ends entries entry scalar scalar_values array array_values entry_values value_at values_at value_place type_size integer_size header i32_at signed32 number_at part_at bind
 last_week_lists = refl
 
 -- ---- pages of a layout
@@ -187,6 +189,7 @@ weekly t z x l =
       kind = u8;
       dims = record { t = t; c = 1; z = z; y = 1; x = x };
       layout = l;
+      interleaved = false;
       strips_per_channel = 1;
       calibration = uncalibrated;
       channel_block = None;
@@ -213,7 +216,7 @@ handed_in :
     × (plane (weekly 2 1 1 (laid 1 2 1)) (0 ∷ 1 ∷ []) four (coordinate 0 1 0 0) ≡ refused (6 ∷ 0 ∷ 1 ∷ 0 ∷ 0 ∷ []))
     -- "A page number that overflows [..] is 6"
     × (plane (weekly 3 1 1 (laid 2 (2 ^ 64 - 1) 1)) bytewise four (coordinate 1 2 0 0) ≡ refused (6 ∷ 1 ∷ 2 ∷ 0 ∷ 0 ∷ []))
-unfolding plane plane_from region region_from scene_there coordinate_there coordinates rectangle plane_strips in_turn region_strips row_strips window_strips whole_rows whole_pages whole_channels whole_channel whole_rows_of whole_strips rows_in picture_size unlimited_size word channel_strips page_of inside total samples_in channel_picture window span picture bytes stored place each_sample bind
+unfolding plane plane_from region region_from scene_there coordinate_there coordinates rectangle joined_size plane_strips in_turn region_strips row_strips window_strips whole_rows whole_pages whole_channels whole_channel whole_rows_of whole_strips rows_in picture_size unlimited_size word channel_strips page_of inside total samples_in channel_picture window span stored_picture bytes stored place each_sample bind
 handed_in = (refl, refl, refl, refl, refl, refl, refl, refl, refl)
 
 -- A picture of 2^33 columns is oversized: by rows its strip outside the file is refused, by plane's checks its size. So the answers tell what
@@ -238,5 +241,5 @@ whole_rows_lem :
     -- "or an overflow, means no"; no page at all means yes
     × (wide (laid (2 ^ 32) (2 ^ 32) 1) (0 ∷ 2 ^ 33 ∷ []) ≡ by_plane)
     × (wide (laid (2 ^ 40) (2 ^ 40) 0) (0 ∷ 2 ^ 33 ∷ []) ≡ by_rows)
-unfolding plane plane_from region region_from scene_there coordinate_there coordinates rectangle plane_strips in_turn region_strips row_strips window_strips whole_rows whole_pages whole_channels whole_channel whole_rows_of whole_strips rows_in picture_size unlimited_size word channel_strips page_of inside total samples_in channel_picture window span picture bytes stored place each_sample bind
+unfolding plane plane_from region region_from scene_there coordinate_there coordinates rectangle joined_size plane_strips in_turn region_strips row_strips window_strips whole_rows whole_pages whole_channels whole_channel whole_rows_of whole_strips rows_in picture_size unlimited_size word channel_strips page_of inside total samples_in channel_picture window span stored_picture bytes stored place each_sample bind
 whole_rows_lem = (refl, refl, refl, refl, refl, refl)

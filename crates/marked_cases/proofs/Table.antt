@@ -19,7 +19,7 @@ use Rattle.lsm_format.specs.Lent.{lend}
 use Rattle.lsm_format.specs.CzInfo.{cz_info, header, extents, voxels, channel_block, shots}
 use Rattle.lsm_format.specs.Directory.{directory, ends, entries, entry, scalar, scalar_values, array, array_values, entry_values, value_at, values_at, value_place, type_size, integer_size}
 use Rattle.lsm_format.specs.Open.{open_file, read, order_mark, tiff_header, Walk, start, table_words, walk, chain, join, agrees, describe_walk, agreement, layout_for, describe}
-use Rattle.lsm_format.specs.Picture.{scene_there, coordinate_there, plane, plane_from, plane_strips, in_turn, channel_strips, inside, total, samples_in, channel_picture, window, span, picture, bytes, stored, place, each_sample, region, region_from, region_strips, whole_rows, whole_pages, whole_channels, whole_channel, whole_rows_of, whole_strips, rows_in, row_strips, window_strips}
+use Rattle.lsm_format.specs.Picture.{scene_there, coordinate_there, plane, plane_from, joined_size, plane_strips, in_turn, channel_strips, inside, total, samples_in, channel_picture, window, span, stored_picture, bytes, stored, place, each_sample, region, region_from, region_strips, whole_rows, whole_pages, whole_channels, whole_channel, whole_rows_of, whole_strips, rows_in, row_strips, window_strips}
 use Rattle.lsm_format.specs.Utf8.{lossy, lossy_by, piece}
 use Rattle.lsm_format.specs.Calibration.{figure, tens_above, tens_below}
 use Rattle.lsm_format.specs.Channels.{channel_in}
@@ -29,7 +29,7 @@ use Rattle.marked_cases.specs.Marked.{G, G-with, G-plane, G-region, Marked}
 -- ---- the marked cases
 
 pub marked : Marked
-unfolding figure tens_above tens_below lossy lossy_by piece open_file read tiff_header walk chain join agrees directory ends entries entry scalar scalar_values array array_values entry_values value_at values_at value_place type_size integer_size describe_walk agreement layout_for describe cz_info header extents voxels channel_block shots i32_at signed32 number_at part_at layout scenes pages_expected word lend bind scene_there coordinate_there coordinates rectangle plane plane_from plane_strips in_turn picture_size unlimited_size channel_strips page_of inside total samples_in channel_picture window span picture bytes stored place each_sample region region_from region_strips whole_rows whole_pages whole_channels whole_channel whole_rows_of whole_strips rows_in row_strips window_strips
+unfolding figure tens_above tens_below lossy lossy_by piece open_file read tiff_header walk chain join agrees directory ends entries entry scalar scalar_values array array_values entry_values value_at values_at value_place type_size integer_size describe_walk agreement layout_for describe cz_info header extents voxels channel_block shots i32_at signed32 number_at part_at layout scenes pages_expected word lend bind scene_there coordinate_there coordinates rectangle plane plane_from joined_size plane_strips in_turn picture_size unlimited_size channel_strips page_of inside total samples_in channel_picture window span stored_picture bytes stored place each_sample region region_from region_strips whole_rows whole_pages whole_channels whole_channel whole_rows_of whole_strips rows_in row_strips window_strips
 marked = record {
   figure_1005 = refl;
   figure_1015 = refl;
@@ -146,7 +146,7 @@ pictures :
     (G-plane G ≡ accepted (record { rows = 1; columns = 2; bytes = 7 ∷ 9 ∷ [] }))
     -- the rectangle at column 1 where plane is refused
     × (G-region (G-with 66 1) 1 0 1 1 ≡ refused (2 ∷ []))
-unfolding open_file read tiff_header walk chain join agrees directory ends entries entry scalar scalar_values array array_values entry_values value_at values_at value_place type_size integer_size describe_walk agreement layout_for describe cz_info header extents voxels channel_block shots i32_at signed32 number_at part_at layout scenes pages_expected word lend bind scene_there coordinate_there coordinates rectangle plane plane_from plane_strips in_turn picture_size unlimited_size channel_strips page_of inside total samples_in channel_picture window span picture bytes stored place each_sample region region_from region_strips whole_rows whole_pages whole_channels whole_channel whole_rows_of whole_strips rows_in row_strips window_strips
+unfolding open_file read tiff_header walk chain join agrees directory ends entries entry scalar scalar_values array array_values entry_values value_at values_at value_place type_size integer_size describe_walk agreement layout_for describe cz_info header extents voxels channel_block shots i32_at signed32 number_at part_at layout scenes pages_expected word lend bind scene_there coordinate_there coordinates rectangle plane plane_from joined_size plane_strips in_turn picture_size unlimited_size channel_strips page_of inside total samples_in channel_picture window span stored_picture bytes stored place each_sample region region_from region_strips whole_rows whole_pages whole_channels whole_channel whole_rows_of whole_strips rows_in row_strips window_strips
 pictures = (refl, refl)
 
 -- ---- what the lister prints

@@ -19,7 +19,7 @@ use Rattle.lsm_format.specs.CzInfo.{cz_info, header, extents, voxels, channel_bl
 use Rattle.lsm_format.specs.Channels.{pointers, name_record, color_at_ranges, color_ranges, record_ranges, name_ranges, channels_ranges, channel_ranges}
 use Rattle.lsm_format.specs.Directory.{directory, ends, entries, entry, scalar, scalar_values, array, array_values, entry_values, value_at, values_at, value_place, type_size, integer_size, entry_ranges, entries_ranges, directory_ranges}
 use Rattle.lsm_format.specs.Open.{open_file, read, tiff_header, walk, chain, join, agrees, describe_walk, agreement, layout_for, describe, chain_ranges, walk_ranges, open_ranges}
-use Rattle.lsm_format.specs.Picture.{place, inside, total, channel_strips, scene_there, coordinate_there, plane_strips, in_turn, whole_strips, rows_in, whole_channel, whole_rows_of, whole_channels, whole_pages, whole_rows, row_strips, window_strips, region_strips, region_from}
+use Rattle.lsm_format.specs.Picture.{place, inside, total, channel_strips, scene_there, coordinate_there, joined_size, plane_strips, in_turn, whole_strips, rows_in, whole_channel, whole_rows_of, whole_channels, whole_pages, whole_rows, row_strips, window_strips, region_strips, region_from}
 use Rattle.lsm_format.specs.Listed.{strips_ranges, listed, span_ranges, sample_ranges, window_ranges, region_ranges, listed_for}
 
 -- Little-endian, 1,460 bytes. The numbers in front are places in the file; those of the CZ block's parts are counted from its start.
@@ -226,5 +226,5 @@ rectangle_lists :
     -- "none if it isn't accepted": the second channel's strip is partly outside the file, the third's wholly
     × (flat (listed_for J (coordinate 0 0 1 0) column) ≡ J-open)
     × (flat (listed_for J (coordinate 0 0 2 0) column) ≡ J-open)
-unfolding listed_for region_ranges region_from window_ranges sample_ranges span_ranges place scene_there coordinate_there coordinates rectangle region_strips plane_strips in_turn total whole_rows whole_pages whole_channels whole_channel whole_rows_of whole_strips rows_in row_strips window_strips picture_size unlimited_size channel_strips page_of inside read describe_walk agreement layout_for describe cz_info extents voxels channel_block shots layout scenes pages_expected word open_ranges walk_ranges chain_ranges directory_ranges entries_ranges entry_ranges cz_ranges over in_file flat tiff_header walk chain join agrees directory ends entries entry scalar scalar_values array array_values entry_values value_at values_at value_place type_size integer_size header i32_at signed32 number_at part_at bind
+unfolding listed_for region_ranges region_from window_ranges sample_ranges span_ranges place scene_there coordinate_there coordinates rectangle region_strips joined_size plane_strips in_turn total whole_rows whole_pages whole_channels whole_channel whole_rows_of whole_strips rows_in row_strips window_strips picture_size unlimited_size channel_strips page_of inside read describe_walk agreement layout_for describe cz_info extents voxels channel_block shots layout scenes pages_expected word open_ranges walk_ranges chain_ranges directory_ranges entries_ranges entry_ranges cz_ranges over in_file flat tiff_header walk chain join agrees directory ends entries entry scalar scalar_values array array_values entry_values value_at values_at value_place type_size integer_size header i32_at signed32 number_at part_at bind
 rectangle_lists = (refl, refl, refl)

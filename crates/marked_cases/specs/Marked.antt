@@ -46,6 +46,7 @@ G-opened =
             kind = u8;
             dims = G-dims;
             layout = record { scenes = 1; t = 1; depth = 1 };
+            interleaved = false;
             strips_per_channel = 1;
             calibration = uncalibrated;
             channel_block = None;

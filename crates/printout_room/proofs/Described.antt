@@ -1,12 +1,14 @@
 -- How large the numbers are that opening gives with a strip table of 4,096 words. The table's words are a product of scenes, time points,
--- depth, channels and strips, twice; with no 0 among them, none is above 2,048 (`factors`). That none is 0, and that width and height have 32
--- bits, is carried through opening's steps (`read_small`). Assumes nothing.
-use Prim.Native.Nat.{ℕ, zero, suc, ◌+◌, ◌*◌, ◌^◌, ◌≤◌, ◌<◌}
+-- depth and the strips of a page, twice; with no 0 among them, none is above 2,048 (`factors`). The table doesn't bound channels, since those that
+-- are interleaved share their strips: their number is the one that the first full page states (`walk_few`). That no factor is 0, that width and
+-- height have 32 bits, and how many channels there are at most, is carried through opening's steps (`read_small`). Assumes nothing.
+use Prim.Native.Nat.{ℕ, ◌+◌, ◌*◌, ◌^◌, ◌≤◌, ◌<◌}
 use native.Mathlib.Nat.{le-mul_of_pos_right, mul-pos}
 use native.Mathlib.Omega.{arith}
 use mathlib.Core.Bool.{Bool, true, false, ◌&&◌}
-use mathlib.Core.Path.{◌≡◌, refl}
+use mathlib.Core.Path.{◌≡◌, refl, subst}
 use mathlib.Core.List.{List, [], ◌∷◌}
+use Rattle.std.specs.Prelude.{Option}
 use lib.Dec.{leb, ltb, eqb}
 use lib.IntN.{ℤ}
 use lib.ListN.{length, get_or}
@@ -17,12 +19,13 @@ use Rattle.lsm_format.specs.Sizes.{Kind}
 use Rattle.lsm_format.specs.Scenes.{Layout, layout, scenes}
 use Rattle.lsm_format.specs.CzInfo.{CzInfo, Extents, size, extents, cz_info}
 use Rattle.lsm_format.specs.Directory.{image_width, image_length, Directory}
-use Rattle.lsm_format.specs.Open.{Description, Opened, agreement, layout_for, describe, describe_walk, read, open_file}
+use Rattle.lsm_format.specs.Open.{Walk, Description, Opened, agreement, layout_for, describe, describe_walk, read, open_file}
 use Rattle.lsm_format.specs.Picture.{strips_per_page}
 use Rattle.lsm_format.proofs.Numbers.{number_past, number_there, signed_low, signed_high, less_than_all}
-use Rattle.lsm_format.proofs.Accepting.{Accepting, accepting_bind, accepting_then, accepting_need, accepting_self, accepting_told, both_hold}
+use Rattle.lsm_format.proofs.Accepting.{Accepting, accepting_bind, accepting_then, accepting_need, accepting_given, accepting_self, accepting_told, both_hold}
 use Rattle.lsm_format.proofs.Lent.{lend_fits}
 use Rattle.lsm_format.proofs.Opened.{Fits, read_fits}
+use Rattle.printout_room.proofs.Channels.{FewSamples, FewFirst, walk_few}
 
 -- ---- numbers in a file of bytes
 
@@ -98,52 +101,55 @@ layout_some i pages =
     (accepting_then _ _ _ (λ positions. accepting_then _ _ _ (λ tiles. omega arith))) (λ n h. h))
     (λ l h. accepting_then _ _ _ (λ expected. accepting_then _ _ _ (λ _. h)))
 
--- A picture of 32-bit sizes, at least one time point, one plane and one scene.
+-- A picture of 32-bit sizes and at most 65,535 channels, at least one time point, one plane and one scene.
 record Small (d : Description) : Type 0 where
   long : 0 < d.dims.t
   wide : d.dims.x < 2 ^ 32
   high : d.dims.y < 2 ^ 32
   deep : 0 < d.dims.z
+  channels : d.dims.c ≤ 65535
   scenes : 0 < d.layout.scenes
 
-describe_small : (o : Order) (k : Kind) (p : Directory) (pages : ℕ) (i : CzInfo) → (i.dim_x < 2 ^ 32) × (i.dim_y < 2 ^ 32) →
+describe_small : (o : Order) (k : Kind) (p : Directory) (pages : ℕ) (i : CzInfo) → FewSamples p → (i.dim_x < 2 ^ 32) × (i.dim_y < 2 ^ 32) →
     Accepting Small (describe o k p pages i)
-unfolding describe Accepting
-describe_small o k p pages i h =
+unfolding describe Accepting FewSamples
+describe_small o k p pages i few h =
     accepting_bind _ _ _ _ (agreement_sizes p i) (λ _ a.
     accepting_bind _ _ _ _ (layout_some i pages) (λ l some.
-    record { long = omega arith; wide = rw (← a.0) h.0; high = rw (← a.1) h.1; deep = omega arith; scenes = some }))
+    record { long = omega arith; wide = rw (← a.0) h.0; high = rw (← a.1) h.1; deep = omega arith; channels = omega arith; scenes = some }))
 
-read_small : (f : List ℕ) → Bytes f → Accepting (λ (x : Opened). Small x.description) (read f)
-unfolding read describe_walk Accepting
-read_small f bytes =
-    accepting_then _ _ _ (λ _.
-    accepting_then _ _ _ (λ o.
-    accepting_then _ _ _ (λ w.
-    accepting_bind Small _ _ _
-    (accepting_then _ _ _ (λ p.
+walk_small : (o : Order) (f : List ℕ) → Bytes f → (w : Walk) → FewFirst w.first → Accepting Small (describe_walk o f w)
+unfolding describe_walk FewFirst
+walk_small o f bytes w few =
+    accepting_bind _ _ _ _ (accepting_given decode w.first) (λ p e.
     accepting_then _ _ _ (λ _.
     accepting_then _ _ _ (λ k.
     accepting_then _ _ _ (λ cz.
-    accepting_bind _ _ _ _ (cz_small f bytes o cz.0 cz.1) (λ i h. describe_small o k p (length w.pages) i h))))))
-    (λ d h. h))))
+    accepting_bind _ _ _ _ (cz_small f bytes o cz.0 cz.1) (λ i h.
+    describe_small o k p (length w.pages) i (subst (λ (x : Option Directory). FewFirst x) e few) h)))))
+
+read_small : (f : List ℕ) → Bytes f → Accepting (λ (x : Opened). Small x.description) (read f)
+unfolding read Accepting
+read_small f bytes =
+    accepting_then _ _ _ (λ _.
+    accepting_then _ _ _ (λ o.
+    accepting_bind _ _ _ _ (walk_few o f) (λ w few. accepting_bind Small _ _ _ (walk_small o f bytes w few) (λ d h. h))))
 
 -- ---- opening
 
--- What a table of 4,096 words has room for.
+-- How large a description's numbers are: time points, depth and scenes as a table of 4,096 words has room for, width and height of 32 bits, and
+-- channels as many as a directory can state.
 pub record Few (d : Description) : Type 0 where
   pub long : d.dims.t ≤ 2048
   pub wide : d.dims.x < 2 ^ 32
   pub high : d.dims.y < 2 ^ 32
   pub deep : d.dims.z ≤ 2048
-  pub channels : d.dims.c ≤ 2048
+  pub channels : d.dims.c ≤ 65535
   pub scenes : d.layout.scenes ≤ 2048
 
 -- in a product with no 0 among its factors none is larger than the product
-factors : (s t z c k : ℕ) → 0 < s → 0 < t → 0 < z → 0 < c * k → s * t * z * (c * k) * 2 ≤ 4096 →
-    (s ≤ 2048) × (t ≤ 2048) × (z ≤ 2048) × (c ≤ 2048)
-factors s t z c zero a i b h room = absurd (omega arith)
-factors s t z c (suc k) a i b h room =
+factors : (s t z k : ℕ) → 0 < s → 0 < t → 0 < z → 0 < k → s * t * z * k * 2 ≤ 4096 → (s ≤ 2048) × (t ≤ 2048) × (z ≤ 2048)
+factors s t z k a i b h room =
     omega (
       arith,
       le-mul_of_pos_right s i,
@@ -151,15 +157,13 @@ factors s t z c (suc k) a i b h room =
       le-mul_of_pos_right (s * t) b,
       le-mul_of_pos_right z (mul-pos a i),
       le-mul_of_pos_right (s * t * z) h,
-      le-mul_of_pos_right (c * suc k) (mul-pos (mul-pos a i) b),
-      le-mul_of_pos_right {m = suc k} c (omega arith),
     )
 
 few : (d : Description) (table : List ℕ) → Small d → Fits d table → length table ≤ 4096 → Few d
 few d table small fits room =
     let w : d.layout.scenes * d.dims.t * d.dims.z * strips_per_page d * 2 ≤ 4096 = rw (fits.long, fits.deep, ← fits.words) room in
-    let n = factors d.layout.scenes d.dims.t d.dims.z d.dims.c d.strips_per_channel small.scenes small.long small.deep fits.strips w in
-    record { long = n.1; wide = small.wide; high = small.high; deep = n.2; channels = n.3; scenes = n.0 }
+    let n = factors d.layout.scenes d.dims.t d.dims.z (strips_per_page d) small.scenes small.long small.deep fits.strips w in
+    record { long = n.1; wide = small.wide; high = small.high; deep = n.2; channels = small.channels; scenes = n.0 }
 
 read_few : (f : List ℕ) → Bytes f → (x : Opened) → read f ≡ accepted x → length x.table ≤ 4096 → Few x.description
 read_few f bytes x e room =

@@ -1,6 +1,7 @@
--- Every printout of a file of bytes has room in 524,288 bytes. The weight lies in `channels_room`: a channel's line has six hex digits for
+-- Every printout of a file of bytes has room in 1,048,576 bytes. The weight lies in `channels_room`: a channel's line has six hex digits for
 -- each byte that its name takes of the file, and names don't overlap, so that all together they take no more than the 65,536 bytes of the
--- file. The other lines are few and short: a table of 4,096 words has room for 2,048 scenes and channels at most (`Few`). Assumes nothing.
+-- file. The other lines are short, and as many as a table of 4,096 words has room for, 2,048 scenes at most, and as a file may have channels,
+-- 65,535 (`Few`). Assumes nothing.
 use Prim.Native.Nat.{ℕ, ◌+◌, ◌^◌, ◌≤◌, ◌<◌}
 use native.Mathlib.Omega.{arith}
 use mathlib.Core.Bool.{Bool, true, false, cond}
@@ -65,14 +66,14 @@ module _ (f : List ℕ) (d : Description) (few : Few d) where
       let n : ℕ = d.layout.scenes in
       omega (arith, each_length n 28 0 (scene_line n) (λ i. 0) (λ i h. omega (arith, scene_length n i (omega arith))))
 
-  -- 2,048 channels of 9 bytes, and six for each of the 65,536 that names can take of the file
-  channels_room : length f ≤ most → length (text (each d.dims.c (λ c. channel_line (channels_of f d c)))) ≤ 411648
+  -- 65,535 channels of 9 bytes, and six for each of the 65,536 that names can take of the file
+  channels_room : length f ≤ most → length (text (each d.dims.c (λ c. channel_line (channels_of f d c)))) ≤ 983031
   channels_room h =
       let n = named d.order f d.channel_block in
       omega (arith, each_length d.dims.c 9 6 (λ c. channel_line (channels_of f d c)) n.bytes (λ i l. n.line i), n.all d.dims.c)
 
-  -- 469,257 bytes at most
-  accepted_room : length f ≤ most → length (text (accepted_lines d (channels_of f d))) ≤ 524288
+  -- 1,040,640 bytes at most
+  accepted_room : length f ≤ most → length (text (accepted_lines d (channels_of f d))) ≤ 1048576
   unfolding accepted_lines
   accepted_room h =
       simp (text_append, line_length)
@@ -80,25 +81,25 @@ module _ (f : List ℕ) (d : Description) (few : Few d) where
 
 -- ---- the whole
 
-refused_room : (row : List ℕ) → Short row → length (text (refused_line row ∷ [])) ≤ 524288
+refused_room : (row : List ℕ) → Short row → length (text (refused_line row ∷ [])) ≤ 1048576
 unfolding Short refused_line
 refused_room row h = rw line_length (omega arith)
 
 lines_room : (f : List ℕ) (r : Result Opened) → length f ≤ most → Accepting (λ (x : Opened). Few x.description) r → Refusing r →
-    length (text (lines f r)) ≤ 524288
+    length (text (lines f r)) ≤ 1048576
 unfolding Accepting Refusing
 lines_room f (accepted x) h few row = accepted_room f x.description few h
 lines_room f (refused row) h few short = refused_room row short
 
 -- by the test whether the file is too long
 room_by : (t : Bool) (f : List ℕ) → Bytes f → leb (length f) most ≡ t →
-    length (cond t (text (lines f (open_file f 4096))) (text (too_long_line ∷ []))) ≤ 524288
+    length (cond t (text (lines f (open_file f 4096))) (text (too_long_line ∷ []))) ≤ 1048576
 room_by true f bytes e =
     let h : length f ≤ most = leb-true _ _ e in
     lines_room f (open_file f 4096) h (open_few f bytes) (open_refuses f 4096 (omega arith))
 room_by false f bytes e = rw line_length (omega arith)
 
--- Whatever bytes a file has, its printout has at most 524,288.
-pub printout_room : (f : List ℕ) → ((i : ℕ) → get_or f i 0 < 256) → length (printout f) ≤ 524288
+-- Whatever bytes a file has, its printout has at most 1,048,576.
+pub printout_room : (f : List ℕ) → ((i : ℕ) → get_or f i 0 < 256) → length (printout f) ≤ 1048576
 unfolding printout
 printout_room f bytes = room_by (leb (length f) most) f bytes refl

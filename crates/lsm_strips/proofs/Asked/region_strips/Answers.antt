@@ -15,10 +15,10 @@ returns-then-not-past_test c =
       | then-not-past_test-via-then-not-past_test w ↦
           elim c.if-small.branch [
             | then-small v ↦
-                c.plane_strips.ensures
+                c.plane_strips-then-not-past_test.ensures
                 ∙ sym (region_by_plane (description_of c.args.self.d) _ _ _ _ c.checked_plane_bytes.result c.checked_plane_bytes.ensures (sym c.is_ok-small.ensures.value ∙ v.if-small.true) (sym v.past_test.ensures ∙ not-true _ (sym v.value-is ∙ w.if-not-past_test.true)) c.requires c.args.self.channel)
             | else-small v ↦ let z : ◌≡◌ {A = Bool} false true = sym v.if-small.false ∙ sym v.value-is ∙ w.if-not-past_test.true in no_case cc
           ]
       | then-not-past_test-via-else-not-past_test+then-not-whole_rows w ↦
-          c.plane_strips.ensures ∙ sym (region_broken (description_of c.args.self.d) _ _ _ _ (sym w.whole_rows.ensures ∙ w.if-not-whole_rows.true))
+          c.plane_strips-then-not-past_test.ensures ∙ sym (region_broken (description_of c.args.self.d) _ _ _ _ (sym w.whole_rows.ensures ∙ w.if-not-whole_rows.true))
     ]

@@ -19,4 +19,4 @@ returns c =
     (YieldsList-from_chunks d.strips_per_channel (start_some d _ _ _ there) d.dims.c (strips_at c.args.self.table.now c.in-Some.first (d.dims.c * d.strips_per_channel))
     c.chunks_exact.ensures.size (search rules) (strips_long _ _ _))
     (λ x b q k. search (rules, tests))
-    ∙ page_whole d _ _ _ c.requires.0 _ there
+    ∙ page_whole d _ _ _ c.requires.planar c.requires.row.0 _ there

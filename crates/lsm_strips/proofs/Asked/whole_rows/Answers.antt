@@ -1,8 +1,7 @@
 -- `lsm_strips::Asked::whole_rows` meets its contract, by the first test that says no; then the pages decide. Assumes nothing.
-use Rattle.std.proofs.Common.{rules, tests, arith, sym, ◌∙◌, ◌≡◌, ◌<◌, Some}
+use Rattle.std.proofs.Common.{rules, tests, arith, sym, ◌∙◌, ◌≡◌, ◌<◌}
 use Rattle.std.proofs.lemmas.Iterator.{YieldsList-from_range, serves_from_Range}
 use Rattle.std.proofs.lemmas.Iterator.Search.{all_from_yields_List}
-use Rattle.lsm_format.specs.Words.{word}
 use Rattle.lsm_format.specs.Picture.{whole_page, row_bytes}
 use Rattle.lsm_format.proofs.Words.{word_some}
 use Rattle.lsm_description.specs.Code.{description_of}
