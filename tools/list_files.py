@@ -98,6 +98,35 @@ def scenes(order, voxels, positions, tiles, colors, names, sample=(16, 1), times
     return o.mark + o.pack('HI', 42, 8) + body + info + channel_block
 
 
+def interleaved(order, width, height, strips, planar, channels, colors, names):
+    """One page of U8 whose channels share its strips, of so many bytes each; PlanarConfiguration as given, or absent; a CZ block of 112 bytes
+    and a channel block, with no pointer to colours or names where there are none. The last name ends the file."""
+    o = Order(order)
+    count = len(strips)
+    entries = 7 if planar is None else 8
+    offsets = 8 + 2 + 12 * entries + 4
+    counts = offsets + 4 * count
+    pixels = counts + 4 * count
+    cz = pixels + sum(strips)
+    places = [pixels + sum(strips[:n]) for n in range(count)]
+
+    def array(tag, values, place):
+        return o.entry(tag, 3, *values) if count == 1 else o.entry(tag, 4, count, place=place)
+
+    tags = [
+        o.entry(256, 3, width), o.entry(257, 3, height), o.entry(258, 3, 8), array(273, places, offsets), o.entry(277, 3, channels),
+        array(279, strips, counts), *([] if planar is None else [o.entry(284, 3, planar)]), o.entry(34412, 1, 112, place=cz),
+    ]
+    head = o.mark + o.pack('HI', 42, 8) + o.pack('H', entries) + b''.join(tags) + o.pack('I', 0)
+    arrays = o.pack('I' * count, *places) + o.pack('I' * count, *strips)
+    samples = bytes(n % 256 for n in range(sum(strips)))
+    info = o.pack('IIIIIII', 0x0400494C, 112, width, height, 1, channels, 1).ljust(108, b'\0') + o.pack('I', cz + 112)
+    table = b''.join(bytes(c) + b'\0' for c in colors)
+    list_of_names = b''.join(o.pack('I', len(n)) + n for n in names)
+    channel_block = bytes(12) + o.pack('II', 20 if colors else 0, 20 + len(table) if names else 0) + table + list_of_names
+    return head + arrays + samples + info + channel_block
+
+
 file('g', g(), 'accepted', 'dims 1 1 1 1 2', 'kind 0', 'pixel - - -', 'scenes 1', 'image', 'channels 1', '- -', 'notes 0')
 file('g-big-endian', g('M'), 'accepted', 'dims 1 1 1 1 2', 'kind 0', 'pixel - - -', 'scenes 1', 'image', 'channels 1', '- -', 'notes 0')
 file('empty', b'', 'refused 1')
@@ -149,6 +178,18 @@ file(
     'many-names', scenes('I', (1e-6, 1e-6, 1e-6), 1, 1, [(9, 9, 9)] * 11, [b'\xff' * 1024] * 11),
     'accepted', 'dims 1 11 1 1 2', 'kind 1', f'pixel {bits(1e-6)} {bits(1e-6)} {bits(1e-6)}', 'scenes 1', 'image', 'channels 11',
     *['090909 =' + 'efbfbd' * 1024] * 11, 'notes 0',
+)
+# "All strips then belong to every channel", and a strip may end inside a pixel
+file(
+    'interleaved', interleaved('I', 2, 2, [5, 1, 6], None, 3, [(255, 0, 0), (0, 255, 0), (0, 0, 255)], [b'red', b'green', b'blue']),
+    'accepted', 'dims 1 3 1 2 2', 'kind 0', 'pixel - - -', 'scenes 1', 'image', 'channels 3', 'ff0000 =726564', '00ff00 =677265656e',
+    '0000ff =626c7565', 'notes 0',
+)
+# one strip has more channels than the lister's table has room for strips
+file(
+    'wide', interleaved('M', 1, 1, [2049], 1, 2049, [], [b'first', b'second']),
+    'accepted', 'dims 1 2049 1 1 1', 'kind 0', 'pixel - - -', 'scenes 1', 'image', 'channels 2049', '- =6669727374', '- =7365636f6e64',
+    *['- -'] * 2047, 'notes 0',
 )
 file('too-long', bytes(65537), 'too long')
 file('longest', bytes(65536), 'refused 1')

@@ -16,10 +16,10 @@ import sys
 ASKED = {
     'lsm_replay': {'b': 3, 's': 4, 'r': 13, 'm': 4, 'l': 4, 'e': 4, 'p': 7, 'c': 3, 'z': 3},
     'lsm_replay_open': {'o': 1, 'n': 2, 'w': 4},
-    'lsm_replay_pictures': {'p': 5, 'r': 9, 'q': 24, 'h': 28},
+    'lsm_replay_pictures': {'p': 5, 'r': 9, 'q': 25, 'h': 29},
 }
 # Where a line says the length of a table that is handed in; its words are asked too.
-TABLE = {'q': 20, 'h': 20}
+TABLE = {'q': 21, 'h': 21}
 NUMBER, BYTE = 'bad0bad0bad', 'ff'
 
 

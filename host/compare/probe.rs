@@ -9,6 +9,8 @@ use std::panic::{catch_unwind, AssertUnwindSafe};
 use std::path::{Path, PathBuf};
 use std::time::{Duration, Instant};
 
+use memmap2::Mmap;
+
 use super::{parse_lsm, strips_hold_whole_rows, LsmReader, PageStrips};
 use crate::error::Error;
 use crate::io::map_file;
@@ -84,7 +86,7 @@ fn kept<T>(call: impl FnOnce() -> Result<T, Error>) -> Result<T, Refused> {
 }
 
 // The words of a description, as include/lsm.h counts them.
-pub const WORDS: usize = 18;
+pub const WORDS: usize = 19;
 
 pub struct Channel {
     pub colour: Option<[u8; 3]>,
@@ -93,6 +95,8 @@ pub struct Channel {
 
 pub struct Opened {
     reader: LsmReader,
+    // Where the channels are interleaved `reader` has no page, and this one has them all (`wide`).
+    wide: Option<LsmReader>,
     // The description; word 14 is 0 where there is a note, since the original keeps the note's text only. Where `times` says so, the reader
     // has all pages in one scene, and a coordinate is put into its terms (`asked`).
     pub words: [usize; WORDS],
@@ -152,6 +156,8 @@ fn opened(reader: LsmReader) -> Opened {
     // The original takes no series: a T of 0 counts as 1.
     assert_eq!(d.t, 1);
     words[17] = d.t;
+    // Nor does it take interleaved channels: each strip has one.
+    assert_eq!(words[18], 0);
     if let Some(size) = first.px_size_um {
         words[10] = 1;
         words[11] = size.x.to_bits() as usize;
@@ -181,31 +187,69 @@ fn opened(reader: LsmReader) -> Opened {
     }
     let note = first.notes.first().cloned();
     let channels = first.channels.iter().map(|c| Channel { colour: c.color, name: c.name.clone() }).collect();
-    Opened { words, note, table, channels, reader }
+    Opened { words, note, table, channels, reader, wide: None }
 }
 
-// Whether the original refuses a file since it states several time points.
-pub fn is_series(found: &Result<Opened, Refused>) -> bool {
-    found.as_ref().is_err_and(|r| r.row[0] == 3 && r.text.contains("multi-timepoint"))
+// The sorts of file that the original refuses and this reader takes.
+#[derive(Default, Clone, Copy, PartialEq, Debug)]
+pub struct Sort {
+    pub series: bool,
+    pub interleaved: bool,
 }
 
-// What opening a series should answer: its twin has the T of the CZ block as 1 and the Z as T x Z, so the same pages in the same order
-// (src/twin.rs). What the twin is refused with is the series' refusal. Otherwise the description is the twin's but for T and Z, and later
-// calls are asked over the series' own bytes. `t` and `z` are the series' own, 1 where the file has 0.
-pub fn open_series(memory: &mut Memory, file: &[u8], twin: &[u8], [t, z]: [usize; 2]) -> Result<Opened, Refused> {
-    let o = open(memory, twin)?;
+// What opening a file should answer: `None` where the original refuses the file for its sort, and there is no twin.
+pub struct Judged {
+    pub sort: Sort,
+    pub answer: Option<Result<Opened, Refused>>,
+}
+
+// What opening should answer. The original refuses a file for its T first and for interleaved channels later. So it is asked for the file's
+// twin by the sort that was found (src/twin.rs), which `twin` makes: of equal length, with the same pages and strips in the same order. What
+// the twin is refused with is the file's refusal. Otherwise the description is the twin's but for the file's own T, Z and channels, which
+// `twin` gives too, and later calls are asked over the file's own bytes.
+pub fn judged(memory: &mut Memory, file: &[u8], twin: impl Fn(Sort) -> Option<(Vec<u8>, [usize; 3])>) -> Judged {
+    let mut sort = Sort::default();
+    let mut answer = open(memory, file);
+    let mut counts = None;
+    while let Err(refused) = &answer {
+        let mut found = sort;
+        found.series |= refused.row[0] == 3 && refused.text.contains("multi-timepoint");
+        found.interleaved |= refused.row[0] == 3 && refused.text.contains("interleaved (chunky)");
+        if found == sort {
+            break;
+        }
+        sort = found;
+        let Some((bytes, own)) = twin(sort) else {
+            return Judged { sort, answer: None };
+        };
+        counts = Some(own);
+        answer = open(memory, &bytes);
+    }
+    let answer = match (answer, counts) {
+        (Ok(o), Some(counts)) => Ok(put_right(memory, file, o, sort, counts)),
+        (answer, _) => answer,
+    };
+    Judged { sort, answer: Some(answer) }
+}
+
+// The file's own answer, where that of its twin is `o`. `t` and `z` are 1 where the file has 0.
+fn put_right(memory: &mut Memory, file: &[u8], o: Opened, sort: Sort, [t, z, c]: [usize; 3]) -> Opened {
     assert_eq!(Some(o.words[4]), t.checked_mul(z), "the twin's depth");
+    assert_eq!(o.words[3], if sort.interleaved { 1 } else { c }, "the twin's channels");
     let mut words = o.words;
-    words[2] = t;
-    words[4] = z;
+    words[2..5].copy_from_slice(&[t, c, z]);
     words[8] = z;
     words[17] = t;
+    words[18] = sort.interleaved as usize;
     let (note, table) = (o.note.clone(), o.table.clone());
-    // The twin's file goes away before the series takes its place in memory.
+    // The twin's file goes away before the file takes its place in memory.
     drop(o);
-    let series = handed(memory, file, &words, &table).expect("a reader of what the twin gave");
-    Ok(Opened { note, ..series })
+    let own = handed(memory, file, &words, &table).expect("a reader of what the twin gave");
+    Opened { note, ..own }
 }
+
+// The original reserves a picture before it looks at a strip. It isn't asked for larger ones up to the limit of 4 GiB.
+pub const RESERVE: usize = 1 << 26;
 
 // More channels than this are not looked up in a handed-in description: the original makes a list of them all.
 pub const CHANNELS: usize = 4096;
@@ -248,23 +292,24 @@ fn pages_of(table: &[usize], strips: usize, channels: usize) -> Vec<PageStrips> 
 }
 
 // The original's reader over any file, with a description and a strip table that are handed in. `None` where it can't be made so:
-// no strips in a page, a file that can't be mapped; where no T counts, no scene or more than 2^31 - 1. The words must be a description.
+// no strips in a page where each has one channel; a file that can't be mapped; where no T counts, no scene or more than 2^31 - 1. The words
+// must be a description.
 pub fn handed(memory: &mut Memory, file: &[u8], words: &[usize; WORDS], table: &[usize]) -> Option<Opened> {
     let (dims, layout, pages) = laid_out(words)?;
-    let per_channel = words[9];
-    if (per_channel == 0 && dims.c != 0) || file.is_empty() {
+    let (per_channel, interleaved) = (words[9], words[18] == 1);
+    if (per_channel == 0 && dims.c != 0 && !interleaved) || file.is_empty() {
         return None;
     }
-    let real_pages = pages_of(table, per_channel, dims.c);
-    let dtype = [DType::U8, DType::U16, DType::I16, DType::F32][words[1]];
-    let endian = if words[0] == 1 { Endian::Big } else { Endian::Little };
+    let real_pages = if interleaved { Vec::new() } else { pages_of(table, per_channel, dims.c) };
+    let dtype = dtype(words);
     // The whole-row test over the pages that there should be. Where the rows overflow, the original would panic: no.
     let sums = |page: &PageStrips, row: usize| {
         page.bytes.chunks(per_channel).all(|c| c.iter().try_fold(0usize, |n, &b| n.checked_add(b as usize / row)).is_some())
     };
     let native_region = match (dims.x.checked_mul(dtype.size_bytes()), pages) {
         (Some(row), Some(pages)) => {
-            0 < row
+            !interleaved
+                && 0 < row
                 && pages <= real_pages.len()
                 && real_pages[..pages]
                     .iter()
@@ -277,14 +322,42 @@ pub fn handed(memory: &mut Memory, file: &[u8], words: &[usize; WORDS], table: &
     let found = match dims.c {
         n if CHANNELS < n => Vec::new(),
         // Behind 2^64 - 17 the original's own sum overflows. No such place can be read: no colours and no names.
-        n if words[15] == 1 && words[16] <= usize::MAX - 16 => read_channel_meta(&mmap, words[16], endian, n),
+        n if words[15] == 1 && words[16] <= usize::MAX - 16 => read_channel_meta(&mmap, words[16], endian(words), n),
         n => vec![ChannelMeta::default(); n],
     };
     let channels = found.into_iter().map(|c| Channel { colour: c.color, name: c.name }).collect();
+    let wide = if interleaved { wide(memory, words, dims, layout, table) } else { None };
+    let reader = made(mmap, words, dims, layout, (per_channel, real_pages), native_region);
+    Some(Opened { reader, wide, words: *words, note: None, table: table.to_vec(), channels })
+}
+
+fn dtype(words: &[usize; WORDS]) -> DType {
+    [DType::U8, DType::U16, DType::I16, DType::F32][words[1]]
+}
+
+fn endian(words: &[usize; WORDS]) -> Endian {
+    if words[0] == 1 { Endian::Big } else { Endian::Little }
+}
+
+// A reader of the original's, with the strips of a channel and the pages.
+fn made(
+    mmap: Mmap,
+    words: &[usize; WORDS],
+    dims: Dims5,
+    layout: LsmLayout,
+    (strips_per_channel, real_pages): (usize, Vec<PageStrips>),
+    native_region: bool,
+) -> LsmReader {
     let meta = ImageMeta { name: String::new(), scenes: Vec::new() };
-    let reader =
-        LsmReader { mmap, meta, endian, dtype, dims, layout, strips_per_channel: per_channel, real_pages, native_region };
-    Some(Opened { reader, words: *words, note: None, table: table.to_vec(), channels })
+    LsmReader { mmap, meta, endian: endian(words), dtype: dtype(words), dims, layout, strips_per_channel, real_pages, native_region }
+}
+
+// The pages of interleaved channels as those of one channel that is so many times as wide: the same strips, held to the same number of bytes.
+// `None` where that width passes 64 bits.
+fn wide(memory: &Memory, words: &[usize; WORDS], dims: Dims5, layout: LsmLayout, table: &[usize]) -> Option<LsmReader> {
+    let dims = Dims5 { c: 1, x: dims.x.checked_mul(dims.c)?, ..dims };
+    let pages = pages_of(table, words[9], 1);
+    Some(made(map_file(&memory.path).ok()?, words, dims, layout, (words[9], pages), false))
 }
 
 // The note of a Z step, in the original's words.
@@ -346,6 +419,58 @@ impl Opened {
         let [scene, t, c, z] = self.asked(at)?;
         let [x, y, w, h] = rect;
         self.answered(at, kept(|| self.reader.region(scene, t, c, z, PixelRect { x, y, w, h })))
+    }
+
+    // A picture of interleaved channels, or a rectangle of it, where the original can judge it. It does so in three steps. The reader without
+    // pages refuses what comes before the page, and gives an empty rectangle; otherwise it has no page. Then the reader of one wide channel
+    // refuses the page and its strips, or accepts them. Then the channel's samples, picked out of the joined strips, are a file of their own,
+    // of which the original gives the picture or the rectangle.
+    //
+    // `None` where channels times the picture's size pass 64 bits, or what the original reserves, or where the width does.
+    pub fn interleaved(&self, at: [usize; 4], rect: Option<[usize; 4]>) -> Option<Result<Picture, Refused>> {
+        let w = &self.words;
+        let [scene, t, c, z] = at;
+        let before = match rect {
+            None => self.plane(at),
+            Some(rect) => self.region(at, rect),
+        };
+        let there = t < w[2] && c < w[3] && z < w[4];
+        if !matches!(&before, Err(r) if r.row[0] == 6 && there) {
+            return Some(before);
+        }
+        let sample = dtype(w).size_bytes();
+        let all = (w[6] * w[5] * sample).checked_mul(w[3])?;
+        if RESERVE < all {
+            return None;
+        }
+        let wide = self.wide.as_ref()?;
+        let [scene_asked, t_asked, _, z_asked] = self.asked(at).unwrap_or_else(|r| panic!("{}", r.text));
+        if let Err(mut r) = kept(|| wide.plane(scene_asked, t_asked, 0, z_asked)) {
+            if r.row[0] == 6 {
+                r.row[1..].copy_from_slice(&at);
+            }
+            return Some(Err(r));
+        }
+        let first = 2 * w[9] * page(w, [scene, t, z]) as usize;
+        let strips = self.table[first..first + 2 * w[9]].chunks(2);
+        let joined: Vec<u8> = strips.flat_map(|s| self.reader.mmap[s[0]..s[0] + s[1]].iter().copied()).collect();
+        // A picture of no bytes has no pixel to pick from.
+        let pixels = joined.chunks(if joined.is_empty() { 1 } else { sample * w[3] });
+        let mut own: Vec<u8> = pixels.flat_map(|pixel| pixel[sample * c..][..sample].iter().copied()).collect();
+        let strip = PageStrips { offsets: vec![0], bytes: vec![own.len() as u64] };
+        let dims = Dims5 { t: 1, c: 1, z: 1, ..self.reader.dims };
+        let rows = dims.x.checked_mul(sample).is_some_and(|row| strips_hold_whole_rows(&strip, 1, 1, row, dims.y));
+        // no file of no bytes can be mapped
+        own.push(0);
+        let mut memory = Memory::new();
+        memory.put(&own);
+        let mmap = map_file(&memory.path).ok()?;
+        let one = made(mmap, w, dims, LsmLayout::new(1, 1, 1).ok()?, (1, vec![strip]), rows);
+        Some(kept(|| match rect {
+            None => one.plane(0, 0, 0, 0),
+            Some([x, y, w, h]) => one.region(0, 0, 0, 0, PixelRect { x, y, w, h }),
+        })
+        .map(picture))
     }
 
     // How long a picture takes, or a rectangle of it.

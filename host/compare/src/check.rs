@@ -1,4 +1,5 @@
 // Both readers on one file: every answer, every number, every word and byte of lent memory.
+use crate::interleaved::{self, Wanted};
 use crate::lent::Lent;
 use crate::make;
 use crate::past;
@@ -7,12 +8,11 @@ use crate::random::Random;
 use crate::standin::{CHANNEL_WORDS, DESCRIPTION_WORDS, OPEN_WORDS, PICTURE_WORDS};
 use crate::twin::twin;
 use crate::walk::{walk, Walk};
-use original::probe::{self, Memory, Opened, Picture, Refused, PANIC};
+use original::probe::{self, Judged, Memory, Opened, Picture, Refused, PANIC, RESERVE};
 use std::collections::BTreeMap;
 use std::time::{Duration, Instant};
 
-// The original reserves the whole picture before it looks at a strip. Larger ones up to the limit of 4 GiB are not asked for.
-pub const RESERVE: usize = 1 << 26;
+// The most bytes of a picture. Of a larger one the original reserves nothing.
 pub const LIMIT: usize = 1 << 32;
 
 // How many of a sort of call came out how: by the refusal's number, 0 for accepted.
@@ -51,6 +51,22 @@ pub struct Series {
     pub later_regions: u64,
 }
 
+// Files of several interleaved channels, which the original judges by their twins; and the pictures and rectangles of interleaved channels.
+#[derive(Default, Clone)]
+pub struct Interleaved {
+    pub opened: u64,
+    // of the opened ones, those that are series too
+    pub series: u64,
+    pub refused: u64,
+    // a byte of the channels' number is read as something else too: no twin
+    pub left_out: u64,
+    pub planes: u64,
+    pub regions: u64,
+    // calls that the original judged as well as the host, and those that it can't judge
+    pub both: u64,
+    pub alone: u64,
+}
+
 #[derive(Default, Clone)]
 pub struct Tally {
     pub files: u64,
@@ -66,6 +82,7 @@ pub struct Tally {
     pub not_handed: u64,
     pub past: Past,
     pub series: Series,
+    pub interleaved: Interleaved,
     pub not_reserved: u64,
     pub circles: u64,
     pub circles_left: u64,
@@ -94,20 +111,9 @@ pub struct Both {
     out: Lent<u8>,
 }
 
-// What opening a file should answer, and whether the original was asked for a twin of it.
-pub struct Wanted {
-    pub series: bool,
-    pub answer: Result<Opened, Refused>,
-}
-
-// The original's answer; for a series that of its twin. `None` for a series that has no twin.
-pub fn wanted(memory: &mut Memory, file: &[u8], w: &Walk) -> Option<Wanted> {
-    let answer = probe::open(memory, file);
-    if !probe::is_series(&answer) {
-        return Some(Wanted { series: false, answer });
-    }
-    let twin = twin(file, w)?;
-    Some(Wanted { series: true, answer: probe::open_series(memory, file, &twin.file, twin.counts) })
+// What opening a file should answer: what the original says of it or of its twin.
+pub fn judged(memory: &mut Memory, file: &[u8], w: &Walk) -> Judged {
+    probe::judged(memory, file, |sort| twin(file, w, sort.series, sort.interleaved))
 }
 
 // The original's words for a refusal without its figures: one text for each rule.
@@ -130,10 +136,10 @@ pub fn rule(text: &str) -> String {
 
 // One word of a description set to a bound; it stays a description.
 fn change(r: &mut Random, words: &mut [usize; DESCRIPTION_WORDS], len: usize) {
-    let at = r.of(&[0, 1, 2, 2, 3, 3, 4, 5, 5, 6, 6, 7, 8, 8, 9, 9, 16, 17, 17]);
+    let at = r.of(&[0, 1, 2, 2, 3, 3, 4, 5, 5, 6, 6, 7, 8, 8, 9, 9, 16, 17, 17, 18]);
     let n = words[at];
     words[at] = match at {
-        0 => 1 - n,
+        0 | 18 => 1 - n,
         1 => r.below(4),
         // the original can be given any number of scenes where a T counts
         7 if (words[17] != 1 || 1 < words[2]) && r.chance(50) => r.of(&[0, 1 << 31, 1 << 32, 1 << 63, usize::MAX]),
@@ -174,6 +180,25 @@ fn change(r: &mut Random, words: &mut [usize; DESCRIPTION_WORDS], len: usize) {
     };
 }
 
+// The flag turned round, mostly with as many strips of a page as before; or channels and columns that change places, so that interleaved
+// samples are of other pixels.
+fn regroup(r: &mut Random, words: &mut [usize; DESCRIPTION_WORDS]) {
+    if words[18] == 1 && r.chance(30) {
+        words.swap(3, 6);
+        return;
+    }
+    words[18] = 1 - words[18];
+    if r.chance(75) {
+        let (channels, strips) = (words[3], words[9]);
+        words[9] = if words[18] == 1 { strips * channels } else { (strips / channels).max(1) };
+    }
+}
+
+// The strips of a page.
+fn strips_of_page(words: &[usize; DESCRIPTION_WORDS]) -> usize {
+    if words[18] == 1 { words[9] } else { words[3] * words[9] }
+}
+
 // A page's strips made shorter, longer, cut elsewhere or outside the file, which has so many bytes.
 fn spoil(r: &mut Random, page: &mut [usize], wide: usize, len: usize) {
     for _ in 0..r.below(3) {
@@ -198,7 +223,7 @@ fn spoil(r: &mut Random, page: &mut [usize], wide: usize, len: usize) {
 // The depth set below the number of Z, or the layout's T below that of the dimensions, or to 0, with the pages of the table kept and
 // more of them behind: copies that are spoilt. So the whole-row test runs over fewer pages than can be asked for.
 fn shallow(r: &mut Random, words: &mut [usize; DESCRIPTION_WORDS], table: &mut Vec<usize>, len: usize) {
-    let page = 2 * words[3] * words[9];
+    let page = 2 * strips_of_page(words);
     let pages = table.len() / page;
     // the layout's word that is lowered, the dimension that it may then be below, and the layout's other word
     let [lowered, above, other] = r.of(&[[8, 4, 17], [8, 4, 17], [17, 2, 8]]);
@@ -314,19 +339,23 @@ impl Both {
         self.tally.files += 1;
         self.tally.bytes += file.len() as u64;
         let before = self.memory.took;
-        let found = wanted(&mut self.memory, file, &w);
+        let Judged { sort, answer } = judged(&mut self.memory, file, &w);
         self.tally.original += self.memory.took - before;
-        match found {
+        let (series, interleaved) = (&mut self.tally.series, &mut self.tally.interleaved);
+        match answer {
             None => {
-                self.tally.series.left_out += 1;
+                *if sort.interleaved { &mut interleaved.left_out } else { &mut series.left_out } += 1;
                 None
             }
-            Some(Wanted { series, answer: Err(refused) }) => {
-                self.tally.series.refused += series as u64;
+            Some(Err(refused)) => {
+                series.refused += sort.series as u64;
+                interleaved.refused += sort.interleaved as u64;
                 self.refused(file, &refused, r)
             }
-            Some(Wanted { series, answer: Ok(mut o) }) => {
-                self.tally.series.opened += series as u64;
+            Some(Ok(mut o)) => {
+                series.opened += sort.series as u64;
+                interleaved.opened += sort.interleaved as u64;
+                interleaved.series += (sort.series && sort.interleaved) as u64;
                 self.describe(file, &w, &mut o);
                 self.accepted(file, &w, &o, r)
             }
@@ -401,12 +430,16 @@ impl Both {
         if shallower {
             shallow(r, &mut words, &mut table, other.len());
         }
-        if !shallower || r.chance(30) {
+        let regrouped = r.chance(if shallower || words[3] == 1 { 8 } else { 30 });
+        if regrouped {
+            regroup(r, &mut words);
+        }
+        if (!shallower && !regrouped) || r.chance(30) {
             for _ in 0..1 + r.below(2) {
                 change(r, &mut words, other.len());
             }
         }
-        if r.chance(if shallower { 10 } else { 40 }) {
+        if r.chance(if shallower || regrouped { 10 } else { 40 }) {
             match r.below(3) {
                 0 => table.truncate(r.below(table.len() + 1)),
                 1 => table.extend((0..1 + r.below(6)).map(|i| [12, 2][i % 2])),
@@ -432,9 +465,11 @@ impl Both {
                     (13, 4),
                     (11, usize::MAX),
                     (15, 2),
+                    (18, 2),
+                    (18, usize::MAX),
                 ]
             } else {
-                &[(0, 2), (0, usize::MAX), (1, 4), (1, 1 << 32), (10, 2), (15, 2), (15, usize::MAX)]
+                &[(0, 2), (0, usize::MAX), (1, 4), (1, 1 << 32), (10, 2), (15, 2), (15, usize::MAX), (18, 2), (18, 1 << 32)]
             };
             let (at, n) = r.of(sorts);
             words[at] = n;
@@ -569,7 +604,7 @@ impl Both {
             list.extend((0..3).map(|_| place(o, r)));
         }
         for at in list {
-            if RESERVE < size && size <= LIMIT {
+            if o.words[18] == 0 && RESERVE < size && size <= LIMIT {
                 self.tally.not_reserved += 1;
                 continue;
             }
@@ -587,7 +622,7 @@ impl Both {
             let at = place(o, r);
             let rect = rectangle(wide, high, r);
             let size = reserved(o, Some(rect));
-            if RESERVE < size && size <= LIMIT {
+            if o.words[18] == 0 && RESERVE < size && size <= LIMIT {
                 self.tally.not_reserved += 1;
                 continue;
             }
@@ -600,9 +635,21 @@ impl Both {
 
     fn picture(&mut self, file: &[u8], o: &Opened, at: [usize; 4], rect: Option<[usize; 4]>, r: &mut Random) -> Option<String> {
         let start = Instant::now();
-        let found = match rect {
-            None => o.plane(at),
-            Some(rect) => o.region(at, rect),
+        let found = if o.words[18] == 1 {
+            match interleaved::wanted(o, file, at, rect) {
+                Ok(Wanted::Answer(found, both)) => {
+                    let tally = &mut self.tally.interleaved;
+                    *if both { &mut tally.both } else { &mut tally.alone } += 1;
+                    found
+                }
+                Ok(Wanted::Large) => {
+                    self.tally.not_reserved += 1;
+                    return None;
+                }
+                Err(d) => return Some(d),
+            }
+        } else {
+            rect.map_or_else(|| o.plane(at), |rect| o.region(at, rect))
         };
         self.tally.original += start.elapsed();
         let found = match rect {
@@ -677,19 +724,26 @@ impl Both {
 
     // The inputs whose answers are settled: the host must say them, and so must the port.
     pub fn settled(&mut self) -> Option<String> {
-        for case in past::settled() {
+        for case in past::settled().into_iter().chain(interleaved::settled()) {
             let asked = format!("words {:x?}, table {:x?}, at {:?}, {:?}", case.words, case.table, case.at, case.rect);
             let mut beside = std::mem::take(&mut self.beside);
             let made = probe::handed(&mut beside, &case.file, &case.words, &case.table).expect("a reader");
-            let past = made.whole_rows() && past::decides(&case.words, case.at, case.rect);
-            let said = match past {
-                true => past::region(&case.words, &case.table, &case.file, case.at, case.rect).answer(),
-                false => made.region(case.at, case.rect).map(|p| p.bytes).map_err(|r| r.row),
+            let past = made.whole_rows() && case.rect.is_some_and(|rect| past::decides(&case.words, case.at, rect));
+            let bytes = |found: Result<Picture, Refused>| found.map(|p| p.bytes).map_err(|r| r.row);
+            let said = match case.rect {
+                _ if case.words[18] == 1 => match interleaved::wanted(&made, &case.file, case.at, case.rect) {
+                    Ok(Wanted::Answer(found, _)) => bytes(found),
+                    Ok(Wanted::Large) => unreachable!("a large answer that is settled"),
+                    Err(d) => return Some(format!("settled, {asked}: {d}")),
+                },
+                Some(rect) if past => past::region(&case.words, &case.table, &case.file, case.at, rect).answer(),
+                Some(rect) => bytes(made.region(case.at, rect)),
+                None => bytes(made.plane(case.at)),
             };
             let d = if past != case.past || said != case.wanted {
                 Some(format!("the host says {said:?}, past the tested pages {past}"))
             } else {
-                self.picture(&case.file, &made, case.at, Some(case.rect), &mut Random::of_case(0, 0, 0))
+                self.picture(&case.file, &made, case.at, case.rect, &mut Random::of_case(0, 0, 0))
             };
             drop(made);
             self.beside = beside;
@@ -721,6 +775,10 @@ impl Both {
         if words[0] == 0 && at[1] != 0 {
             let series = &mut self.tally.series;
             *if rect.is_some() { &mut series.later_regions } else { &mut series.later_planes } += 1;
+        }
+        if words[0] == 0 && description[18] == 1 {
+            let interleaved = &mut self.tally.interleaved;
+            *if rect.is_some() { &mut interleaved.regions } else { &mut interleaved.planes } += 1;
         }
         let call = || match rect {
             None => format!("plane {at:?}, buffer of {room} bytes"),

@@ -1,4 +1,6 @@
 // The stand-in as a static library with the C interface, so that the way through C can be tried before the library is there.
+#[allow(dead_code)] // the faults of a faulty port
+mod pixels;
 mod standin;
 mod twin;
 mod walk;

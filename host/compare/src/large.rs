@@ -129,6 +129,31 @@ fn rows_of_series(big: bool, rows: u64, whole: bool) -> Vec<u8> {
     f.bytes
 }
 
+// Two channels of so many rows of 2^20 bytes, interleaved or planar. The page has 2^20 bytes to a strip, the strips all over one another: so
+// each holds a row of a channel, or, interleaved, half a row of both. Where one isn't inside the file, it is the last.
+fn rows_of_channels(big: bool, rows: u64, planar: bool, inside: bool) -> Vec<u8> {
+    let wide = 1 << 20;
+    let (block, arrays, strips) = (122, 152, 2 * rows);
+    let samples = arrays + 8 * strips;
+    let mut f = File::new(big, (samples + wide) as usize + 64);
+    f.put(8, 9, 2);
+    let numbers = [(256, 4, 1, wide), (257, 4, 1, rows), (258, 3, 1, 8), (259, 3, 1, 1), (277, 3, 1, 2), (284, 3, 1, 1 + planar as u64)];
+    let places = [(273, 4, strips, arrays), (279, 4, strips, arrays + 4 * strips), (34412, 1, 28, block)];
+    for (i, (tag, ty, count, value)) in numbers.into_iter().chain(places).enumerate() {
+        f.entry(10 + 12 * i, tag, ty, count, value);
+    }
+    f.cz(block as usize, [wide, rows, 1, 2, 1]);
+    for i in 0..strips {
+        let last = !inside && i == strips - 1;
+        f.put((arrays + 4 * i) as usize, samples + if last { 65 } else { i * 7 % 64 }, 4);
+        f.put((arrays + 4 * (strips + i)) as usize, wide, 4);
+    }
+    for i in samples as usize..f.bytes.len() {
+        f.bytes[i] = (i * 31 >> 3) as u8;
+    }
+    f.bytes
+}
+
 // A chain that leads back to a reduced page.
 fn circle(big: bool, full: bool) -> Vec<u8> {
     let mut f = page(big, 2, 1, 130 + 18, (4, 1, 128), (4, 1, 2));
@@ -156,9 +181,20 @@ pub fn files() -> Vec<(&'static str, Vec<u8>)> {
         list.push(("a row above 4 GiB", rows(big, 4097)));
         list.push(("two time points of a row above 4 GiB", rows_of_series(big, 4097, true)));
         list.push(("two time points of a row above 4 GiB, one not in whole rows", rows_of_series(big, 4097, false)));
+        for (what, planar, inside) in [
+            ("two interleaved channels of 4 GiB", false, true),
+            ("two interleaved channels of 4 GiB, a strip outside the file", false, false),
+            ("two planar channels of 4 GiB", true, true),
+            ("two planar channels of 4 GiB, a strip outside the file", true, false),
+        ] {
+            list.push((what, rows_of_channels(big, 4096, planar, inside)));
+        }
+        list.push(("two interleaved channels of a row above 4 GiB", rows_of_channels(big, 4097, false, true)));
+        list.push(("two planar channels of a row above 4 GiB", rows_of_channels(big, 4097, true, true)));
         list.push(("the largest sides", page(big, 0x7fff_ffff, 0x7fff_ffff, 130, (4, 1, 128), (4, 1, 2)).bytes));
     }
     list.extend(rules::large_series().into_iter().map(|f| ("two time points above 4 GiB", f)));
+    list.extend(rules::large_interleaved().into_iter().map(|f| ("two channels of 4 GiB or of a row more, all outside the file", f)));
     list.push(("a circle of reduced pages", circle(false, false)));
     list.push(("a circle of reduced pages", circle(true, false)));
     list.push(("a circle of full pages", circle(false, true)));

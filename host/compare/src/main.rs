@@ -1,11 +1,14 @@
 // Compares a port of the LSM reader with the original. README.md one folder up says how it is run.
 mod bench;
 mod check;
+mod interleaved;
+mod joined;
 mod large;
 mod lent;
 mod make;
 mod past;
 mod pictures;
+mod pixels;
 mod port;
 mod random;
 mod record;
@@ -50,7 +53,7 @@ const USAGE: &str = "options:
   --no-large     without the large files
   --no-pictures  without planes and regions
   --keep N       go on until N differences were shown (1)
-  --fault N      a port with a fault, 1 to 28, to see that it is noticed
+  --fault N      a port with a fault, 1 to 41, to see that it is noticed
   --bench        times of both instead of a comparison
   --hostile      times of opening hostile files
   --case N       only this case: its bytes and both answers
@@ -218,9 +221,14 @@ fn report(t: &Tally, o: &Options, port: &str, took: Duration, differences: u64) 
         "series: {} opened, {} refused by their twins; past t 0 {} planes and {} regions accepted",
         s.opened, s.refused, s.later_planes, s.later_regions
     );
+    let i = &t.interleaved;
     println!(
-        "not compared: {} circles beyond those asked ({} asked), {} pictures that the original would reserve first, {} series without a twin",
-        t.circles_left, t.circles, t.not_reserved, s.left_out
+        "interleaved channels: {} opened ({} of them series), {} refused by their twins; {} planes and {} regions accepted; {} calls judged by the original too, {} by the host alone",
+        i.opened, i.series, i.refused, i.planes, i.regions, i.both, i.alone
+    );
+    println!(
+        "not compared: {} circles beyond those asked ({} asked), {} pictures that the original would reserve first, {} series and {} files of interleaved channels without a twin",
+        t.circles_left, t.circles, t.not_reserved, s.left_out, i.left_out
     );
     println!("refusals of opening, by the original's words:");
     for (text, n) in &t.reasons {

@@ -29,7 +29,6 @@ enum Fault {
     Xy,
     Channels,
     Times,
-    Chunky,
     Strips,
     Counts,
     PageCount,
@@ -44,7 +43,7 @@ enum Fault {
     Short,
 }
 
-const FAULTS: [Fault; 32] = [
+const FAULTS: [Fault; 31] = [
     Fault::Mark,
     Fault::Magic,
     Fault::First,
@@ -64,7 +63,6 @@ const FAULTS: [Fault; 32] = [
     Fault::Xy,
     Fault::Channels,
     Fault::Times,
-    Fault::Chunky,
     Fault::Strips,
     Fault::Counts,
     Fault::PageCount,
@@ -373,7 +371,9 @@ fn plan(r: &mut Random, faults: Vec<Fault>, small: bool) -> Plan {
         w = r.of(&[w, 65_535, 65_536, 70_000, 1 << 30, i32::MAX as u64]);
         h = r.of(&[h, 65_536, 65_537, 1 << 20, i32::MAX as u64]);
     }
-    let channels = if small { r.of(&[1, 1, 1, 2]) } else { r.of(&[1, 1, 1, 1, 2, 2, 3, 4, 6]) };
+    let channels = if small { r.of(&[1, 1, 1, 2, 2, 3]) } else { r.of(&[1, 1, 1, 1, 2, 2, 3, 4, 6]) };
+    // of a hundred files about 15 have several channels that are interleaved; of the small ones more
+    let interleaved = 1 < channels && r.chance(if small { 40 } else { 30 });
     let z = if small { r.of(&[0, 1, 1, 1, 2]) } else { r.of(&[0, 1, 1, 1, 1, 2, 2, 3]) };
     // of a hundred files about 15 are series
     let times: i64 = if r.chance(15) { r.of(&[2, 2, 2, 3]) } else { r.of(&[1, 1, 0]) };
@@ -477,14 +477,19 @@ fn plan(r: &mut Random, faults: Vec<Fault>, small: bool) -> Plan {
     }
     p.cz = cz;
 
-    // how the strips are cut, the same way for every page
-    let per_channel = if p.has(Fault::NoStrips) { 0 } else { r.of(&[1, 1, 1, 1, 1, 2, 2, 3, h.min(6) as usize]) };
-    let mut number = per_channel * channels;
+    // how the strips are cut, the same way for every page: those of a channel, or those that interleaved channels share, which have samples
+    // of all and may be of any number
+    let mut per_channel = if p.has(Fault::NoStrips) { 0 } else { r.of(&[1, 1, 1, 1, 1, 2, 2, 3, h.min(6) as usize]) };
+    if interleaved && per_channel != 0 && r.chance(30) {
+        per_channel = r.of(&[channels, channels + 1, 2 * channels, 5]);
+    }
+    let mut number = if interleaved { per_channel } else { per_channel * channels };
     if p.has(Fault::Strips) {
         number = r.of(&[0, number + 1, number.saturating_sub(1), number + 2]);
     }
-    let cut = r.of(&[0, 0, 0, 0, 0, 0, 1, 1, 2, 3]);
-    let picture = w.saturating_mul(h).saturating_mul(sample);
+    let cut = if interleaved { r.of(&[0, 0, 0, 1, 1, 1, 1, 2, 2, 3]) } else { r.of(&[0, 0, 0, 0, 0, 0, 1, 1, 2, 3]) };
+    let row = w * sample * if interleaved { channels as u64 } else { 1 };
+    let picture = row.saturating_mul(h).min(1 << 63);
     let shared = r.chance(25);
 
     // the tags that every full page has
@@ -492,7 +497,7 @@ fn plan(r: &mut Random, faults: Vec<Fault>, small: bool) -> Plan {
         1 => r.of(&[None, None, Some(1), Some(1), Some(0)]),
         n => Some(n as u64),
     };
-    let planar = if 1 < channels { !p.has(Fault::Chunky) } else { r.chance(30) };
+    let planar = if 1 < channels { !interleaved } else { r.chance(30) };
     let mut compression: Option<u64> = r.of(&[None, None, Some(1)]);
     if p.has(Fault::Compression) {
         compression = Some(r.of(&[0, 2, 5, 7, 32_773, 65_535]));
@@ -552,8 +557,8 @@ fn plan(r: &mut Random, faults: Vec<Fault>, small: bool) -> Plan {
             }
             if g[6] == 1 {
                 e.push(scalar(r, PLANAR, 2, small));
-            } else if r.chance(25) || 1 < g[6] {
-                let n = r.of(&[0, 1, 3, 1, 65_537]);
+            } else if r.chance(if interleaved { 60 } else { 25 }) || 1 < g[6] {
+                let n = r.of(&[0, 1, 3, 1, 65_537, 65_538]);
                 e.push(scalar(r, PLANAR, n, small));
             }
             let mut n = number;
@@ -563,7 +568,7 @@ fn plan(r: &mut Random, faults: Vec<Fault>, small: bool) -> Plan {
             let mut lengths = Vec::new();
             let groups = n.div_ceil(per_channel.max(1));
             for _ in 0..groups {
-                lengths.extend(cuts(r, cut, per_channel.max(1), picture, w * sample));
+                lengths.extend(cuts(r, cut, per_channel.max(1), picture, row));
             }
             lengths.truncate(n);
             for len in lengths {
@@ -622,7 +627,7 @@ fn settle(r: &mut Random, entries: &mut Vec<Entry>) {
     entries.extend(with.into_iter().map(|(_, e)| e));
 }
 
-// The lengths of one channel's strips.
+// The lengths of one channel's strips, or of those that all channels share.
 fn cuts(r: &mut Random, cut: usize, n: usize, picture: u64, row: u64) -> Vec<u64> {
     let rows = picture / row.max(1);
     let mut lengths = Vec::new();
@@ -1013,6 +1018,7 @@ fn edit(r: &mut Random, m: &mut Made) {
         0x8000,
         0xffff,
         0x1_0000,
+        0x1_0002,
         99_999,
         100_000,
         100_001,

@@ -9,6 +9,7 @@
 //
 // The original asks for more: its `gather_rows` refuses with 2 where the page's own strips don't hold whole rows which add up to the
 // height. So what is wanted there is said here.
+use crate::joined::Joined;
 use crate::standin::DESCRIPTION_WORDS;
 
 pub enum Found {
@@ -31,7 +32,7 @@ impl Found {
 
 // (scene × T + t) × depth + z, with the layout's T. It is exact where it fits 128 bits, and otherwise the largest number, which passes 64
 // bits as well.
-fn page(words: &[usize; DESCRIPTION_WORDS], scene: usize, t: usize, z: usize) -> u128 {
+pub fn page(words: &[usize; DESCRIPTION_WORDS], scene: usize, t: usize, z: usize) -> u128 {
     let points = scene as u128 * words[17] as u128 + t as u128;
     points.saturating_mul(words[8] as u128).saturating_add(z as u128)
 }
@@ -56,47 +57,28 @@ pub fn region(words: &[usize; DESCRIPTION_WORDS], table: &[usize], file: &[u8], 
     if 1 << 32 < size {
         return Found::Refused([4, size.min(usize::MAX as u128) as usize, 1 << 32, 0, 0]);
     }
-    // the page: its number has 64 bits, it has strips, and it is wholly in the table
-    let page = page(words, scene, t, z);
-    let strips = 2 * words[9] as u128;
-    let len = strips.checked_mul(words[3] as u128);
-    let end = len.and_then(|len| len.checked_mul(page.checked_add(1)?)).filter(|&end| end <= table.len() as u128);
-    let (Some(len), Some(end)) = (len, end) else {
+    let Some(page) = page_in(table, words[9] as u128 * words[3] as u128, page(words, scene, t, z)) else {
         return Found::Refused([6, scene, t, c, z]);
     };
-    if u64::try_from(page).is_err() || len == 0 {
-        return Found::Refused([6, scene, t, c, z]);
-    }
     // all the channel's strips within the file
-    let start = (end - len + strips * c as u128) as usize;
-    let strips = &table[start..start + strips as usize];
+    let strips = &page[2 * words[9] * c..][..2 * words[9]];
     if strips.chunks(2).any(|s| (file.len() as u128) < s[0] as u128 + s[1] as u128) {
         return Found::Refused([2, 0, 0, 0, 0]);
     }
     // the end of the rectangle's last sample: no other sample of it lies behind
-    let joined: u128 = strips.chunks(2).map(|s| s[1] as u128).sum();
-    if joined < ((y + h - 1) * wide + x + w).saturating_mul(sample) {
+    let joined = Joined::new(strips);
+    if joined.bytes() < ((y + h - 1) * wide + x + w).saturating_mul(sample) {
         return Found::Missing;
     }
-    // where byte k of the joined strips stands in the file
-    let place = |mut k: u128| {
-        for s in strips.chunks(2) {
-            if k < s[1] as u128 {
-                return s[0] + k as usize;
-            }
-            k -= s[1] as u128;
-        }
-        unreachable!("a byte past the joined strips")
-    };
-    let mut out = Vec::with_capacity(size as usize);
-    for row in y..y + h {
-        for column in x..x + w {
-            let first = (row * wide + column) * sample;
-            let bytes = (0..sample).map(|i| if words[0] == 1 { sample - 1 - i } else { i });
-            out.extend(bytes.map(|i| file[place(first + i)]));
-        }
-    }
-    Found::Samples(out)
+    Found::Samples(joined.samples(words, file, rect, 1, 0))
+}
+
+// The words of a page of so many strips: its number has 64 bits, it has strips, and it is wholly in the table.
+pub fn page_in(table: &[usize], strips: u128, page: u128) -> Option<&[usize]> {
+    let number = u64::try_from(page).ok()? as u128;
+    let words = strips.checked_mul(2).filter(|&n| n != 0)?;
+    let end = words.checked_mul(number + 1).filter(|&end| end <= table.len() as u128)?;
+    Some(&table[(end - words) as usize..end as usize])
 }
 
 // An input whose answer is settled: a description of 8 bits and one channel; of one scene and time point, where no other words are given.
@@ -105,7 +87,8 @@ pub struct Settled {
     pub table: Vec<usize>,
     pub file: Vec<u8>,
     pub at: [usize; 4],
-    pub rect: [usize; 4],
+    // the rectangle; the whole picture without one
+    pub rect: Option<[usize; 4]>,
     // whether the whole-row test says yes and the page is past those that it runs over; otherwise the original answers
     pub past: bool,
     pub wanted: Result<Vec<u8>, [usize; 5]>,
@@ -119,7 +102,7 @@ fn case(sizes: [usize; 5], table: &[usize], len: u8, z: usize, rect: [usize; 4],
     words[17] = 1;
     let row = |short: &[usize]| std::array::from_fn(|i| short.get(i).copied().unwrap_or(0));
     let wanted = wanted.map(|samples| samples.to_vec()).map_err(row);
-    Settled { words, table: table.to_vec(), file: (10..10 + len).collect(), at: [0, 0, 0, z], rect, past: true, wanted }
+    Settled { words, table: table.to_vec(), file: (10..10 + len).collect(), at: [0, 0, 0, z], rect: Some(rect), past: true, wanted }
 }
 
 impl Settled {

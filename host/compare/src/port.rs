@@ -1,5 +1,7 @@
 // The reader that is compared with the original, at the level of the C interface's words.
+use crate::pixels::Pixels;
 use crate::standin::{CHANNEL_WORDS, DESCRIPTION_WORDS, OPEN_WORDS, PICTURE_WORDS, Past, StandIn};
+use crate::walk::{number, walk, PLANAR};
 
 pub trait Port {
     fn name(&self) -> &'static str;
@@ -115,7 +117,7 @@ impl Port for Library {
 pub struct Faulty {
     port: Box<dyn Port>,
     fault: usize,
-    // answers for rectangles where they are at fault as a whole
+    // answers for rectangles, or for interleaved channels, where these are at fault as a whole
     beside: StandIn,
 }
 
@@ -138,7 +140,50 @@ fn misread(fault: usize, d: &[usize; DESCRIPTION_WORDS], at: [usize; 4]) -> ([us
     (d, at)
 }
 
-// 1 to 10 are faults of opening, 11 to 15 of channel lookup, 16 to 24 of pictures, 25 to 28 of series.
+// Where words of the description stand in opening's answer.
+const CHANNELS: usize = 3 + 3;
+const STRIPS: usize = 3 + 9;
+const TIMES: usize = 3 + 17;
+const FLAG: usize = 3 + 18;
+
+// The file with each PlanarConfiguration of its full pages cut to 16 bits.
+fn cut(file: &[u8]) -> Vec<u8> {
+    let w = walk(file);
+    let mut other = file.to_vec();
+    let places = if w.circle { None } else { w.of_full_pages(file, PLANAR) };
+    for (at, n) in places.unwrap_or_default() {
+        if n == 4 && at + n <= other.len() {
+            let upper = if w.big { at } else { at + 2 };
+            other[upper..upper + 2].fill(0);
+        }
+    }
+    other
+}
+
+// Whether the file's first full page says that each strip has one channel.
+fn is_planar(file: &[u8]) -> bool {
+    let w = walk(file);
+    let first = w.of_full_pages(file, PLANAR).and_then(|places| places.first().copied());
+    first.is_some_and(|(at, n)| number(file, at, n, w.big) == Some(2))
+}
+
+// What a faulty port does with pictures of interleaved channels.
+fn pixels(fault: usize) -> Pixels {
+    match fault {
+        29 => Pixels::First,
+        30 => Pixels::Planes,
+        31 => Pixels::Cut,
+        32 => Pixels::Limited,
+        33 => Pixels::Rows,
+        34 => Pixels::Strips,
+        35 => Pixels::Rectangles,
+        36 => Pixels::Size,
+        _ => Pixels::Right,
+    }
+}
+
+// 1 to 10 are faults of opening, 11 to 15 of channel lookup, 16 to 24 of pictures, 25 to 28 of series; of interleaved channels 29 to 36 are
+// faults of pictures (pixels.rs says which), 37 to 40 of opening and 41 of words that are no description.
 impl Port for Faulty {
     fn name(&self) -> &'static str {
         "faulty"
@@ -150,7 +195,10 @@ impl Port for Faulty {
 
     fn open(&mut self, file: &[u8], table: &mut [usize], answer: &mut [usize; OPEN_WORDS]) -> usize {
         let before = *answer;
-        let n = self.port.open(file, table, answer);
+        // PlanarConfiguration is cut to 16 bits
+        let other = if self.fault == 38 { cut(file) } else { Vec::new() };
+        let kept = if self.fault == 39 { table.to_vec() } else { Vec::new() };
+        let n = self.port.open(if self.fault == 38 { &other } else { file }, table, answer);
         match self.fault {
             // writes before it says that the table is too short
             1 if n == 7 && !table.is_empty() => table[0] = 5,
@@ -177,7 +225,18 @@ impl Port for Faulty {
             // accepts and writes nothing
             10 if n == 0 && !table.is_empty() => table[0] = 0,
             // lacks the layout's T
-            27 if n == 0 => answer[OPEN_WORDS - 1] = 0,
+            27 if n == 0 => answer[TIMES] = 0,
+            // takes the flag from the tag alone, also of one channel
+            37 if n == 0 && answer[CHANNELS] == 1 => answer[FLAG] = !is_planar(file) as usize,
+            // wants a multiple of the channels for strips that all of them share
+            39 if n == 0 && answer[FLAG] == 1 && answer[STRIPS] % answer[CHANNELS] != 0 => {
+                table.copy_from_slice(&kept);
+                answer.fill(0);
+                answer[0] = 2;
+                return 2;
+            }
+            // lacks the flag
+            40 if n == 0 => answer[FLAG] = 0,
             _ => {}
         }
         n
@@ -191,7 +250,10 @@ impl Port for Faulty {
         name: &mut [u8],
         answer: &mut [usize; CHANNEL_WORDS],
     ) -> usize {
-        let n = self.port.channel(file, description, channel, name, answer);
+        let mut described = *description;
+        // takes any number but 0 for the flag
+        described[18] = described[18].min(if self.fault == 41 { 1 } else { usize::MAX });
+        let n = self.port.channel(file, &described, channel, name, answer);
         match self.fault {
             // ends the name with a zero byte
             11 if n == 0 && answer[6] < name.len() => name[answer[6]] = 0,
@@ -225,6 +287,10 @@ impl Port for Faulty {
             _ => Past::Right,
         };
         if self.beside.past != Past::Right && rect.is_some() {
+            return self.beside.picture(file, description, table, at, rect, out, answer);
+        }
+        self.beside.pixels = pixels(self.fault);
+        if self.beside.pixels != Pixels::Right && description[18] == 1 {
             return self.beside.picture(file, description, table, at, rect, out, answer);
         }
         let (description, place) = misread(self.fault, description, at);

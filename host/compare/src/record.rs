@@ -1,12 +1,12 @@
 // Writes a list of small files with the original's answers, in the form of tools/record/README.md.
-use crate::check::{rule, wanted, Wanted};
+use crate::check::{self, rule};
 use crate::large;
 use crate::make;
 use crate::pictures;
 use crate::random::Random;
 use crate::rules;
 use crate::walk::{number, walk, Walk};
-use original::probe::{self, Channel, Memory, Opened, Refused};
+use original::probe::{self, Channel, Judged, Memory, Opened, Refused};
 use std::collections::BTreeMap;
 
 // A line: a letter, numbers in hexadecimal, a colon and bytes. `*NNBB` is NN bytes BB.
@@ -42,9 +42,9 @@ pub fn refusal(row: &[usize; 5]) -> &[usize] {
 // The most words of a table that the replay of openings lends.
 const TABLE: usize = 64;
 
-// What opening should answer. A series that has no twin is in no list.
+// What opening should answer. A file that neither the original nor a twin judges is in no list.
 pub fn judged(memory: &mut Memory, file: &[u8], w: &Walk) -> Result<Opened, Refused> {
-    wanted(memory, file, w).expect("a file that the original or a twin's answer judges").answer
+    check::judged(memory, file, w).answer.expect("a file that the original or a twin's answer judges")
 }
 
 pub struct List {
@@ -253,21 +253,28 @@ fn written(file: &[u8], w: &Walk) -> Option<Vec<String>> {
 }
 
 // What a file shows: a refusal's rule, or the features of an accepted one. Files are taken so that each is there several times.
-// `None` for a series that has no twin, and for a long table.
+// `None` for a file that nobody judges, and for a long table.
 fn shows(memory: &mut Memory, file: &[u8], w: &Walk) -> Option<Vec<String>> {
-    let Wanted { series, answer } = wanted(memory, file, w)?;
+    let Judged { sort, answer } = check::judged(memory, file, w);
+    let answer = answer?;
+    let sort = match (sort.series, sort.interleaved) {
+        (false, false) => "",
+        (true, false) => "series, ",
+        (false, true) => "interleaved, ",
+        (true, true) => "series, interleaved, ",
+    };
     if answer.as_ref().is_ok_and(|o| TABLE < o.table.len() + 5) {
         return None;
     }
     Some(match answer {
-        Err(r) => vec![format!("{} {}{}", r.row[0], if series { "series, " } else { "" }, rule(&r.text))],
+        Err(r) => vec![format!("{} {sort}{}", r.row[0], rule(&r.text))],
         Ok(o) => {
             let d = o.words;
             let mut v = vec![
                 format!("order {} kind {}", d[0], d[1]),
-                format!("channels {}", d[3].min(3)),
+                format!("{sort}channels {}", d[3].min(3)),
                 format!("depth {} scenes {}", d[4].min(3), d[7].min(3)),
-                format!("strips {}", d[9].min(4)),
+                format!("strips {}{}", d[9].min(4), if d[18] == 1 { ", interleaved" } else { "" }),
                 format!("pixel {} step {}", d[10], d[13]),
                 format!("time points {} depth {} scenes {}", d[17].min(3), d[4].min(2), d[7].min(2)),
                 format!("thumbnails {}", w.visited - d[7] * d[17] * d[8]),

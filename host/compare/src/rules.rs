@@ -128,6 +128,25 @@ impl Small {
         self.value(OFFSETS, (BLOCK + 272) as u64).with(CZ, |e| e.count = 272)
     }
 
+    // With these strips on the last page, by place and length. The arrays stand behind the data.
+    fn strips(mut self, strips: &[(u64, u64)]) -> Small {
+        let n = strips.len() as u64;
+        let at = (BLOCK + 4 * self.cz.len() + self.data.len()) as u64;
+        let numbers = strips.iter().map(|s| s.0 as u32).chain(strips.iter().map(|s| s.1 as u32));
+        let big = self.big;
+        self.data.extend(numbers.flat_map(|n| if big { n.to_be_bytes() } else { n.to_le_bytes() }));
+        let array = |e: &mut Entry, place: u64, first: u64| (e.ty, e.count, e.value) = (4, n, if n == 1 { first } else { place });
+        self.with(OFFSETS, |e| array(e, at, strips[0].0)).with(COUNTS, |e| array(e, at + 4 * n, strips[0].1))
+    }
+
+    // With strips of these lengths, one behind the other from the data's start on.
+    fn cut(self, lengths: &[u64]) -> Small {
+        let first = (BLOCK + 4 * self.cz.len()) as u64;
+        let places = lengths.iter().scan(first, |at, n| Some(std::mem::replace(at, *at + n)));
+        let strips: Vec<(u64, u64)> = places.zip(lengths.iter().copied()).collect();
+        self.strips(&strips)
+    }
+
     fn back(mut self, directory: usize) -> Small {
         self.back = directory + 1;
         self
@@ -298,8 +317,8 @@ fn orders(list: &mut Vec<Vec<u8>>) {
     list.push(small().without(CZ).bytes());
     list.push(small().cz(X, 0).bytes());
     list.push(small().cz(CHANNELS, 0).cz(X, 9).bytes());
-    // "XY, channels, several interleaved channels, strips per channel, layout, page count". A T of 2 is no fault among these: with a page
-    // too few it is 2 by the page count, and interleaved channels are 3 before that
+    // "XY, channels, [..] strips per channel, layout, page count". Neither a T of 2 nor interleaved channels are a fault among these, but with
+    // a page too few it is 2 by the page count
     for f in [time(), time().page(), interleaved(), interleaved().cz(T, 2)] {
         list.push(f.clone().bytes());
         list.push(f.clone().cz(X, 9).bytes());
@@ -351,9 +370,110 @@ fn times(list: &mut Vec<Vec<u8>>) {
     list.push(small().cz(T, 2).page().with(OFFSETS, |e| e.count = 2).with(COUNTS, |e| e.count = 2).bytes());
 }
 
+// A page of two pixels of so many interleaved channels of 8 bits, in one strip. The sample at pixel p of channel c is 16 x p + c.
+fn chunky(channels: u64) -> Small {
+    let mut f = small().value(SAMPLES, channels).cz(CHANNELS, channels).value(COUNTS, 2 * channels);
+    f.data = (0..2).flat_map(|p| (0..channels).map(move |c| (16 * p + c) as u8)).collect();
+    f
+}
+
+// Interleaved channels: which they are, that their strips must only be more than none, and what pages must agree in.
+fn interleaved(list: &mut Vec<Vec<u8>>) {
+    // "any value but 2 with several channels"; one channel never is, whatever the tag says, and 0 is one channel. Of several channels in one
+    // strip the planar ones are 2
+    let sorts = |f: Small, list: &mut Vec<Vec<u8>>| {
+        list.push(f.clone().without(PLANAR).bytes());
+        for value in [0, 1, 2, 3] {
+            list.push(f.clone().value(PLANAR, value).bytes());
+        }
+        for value in [2, 65_537, 65_538, 0x8000_0002] {
+            list.push(f.clone().with(PLANAR, |e| (e.ty, e.value) = (4, value)).bytes());
+        }
+        // the last entry counts, and of several values the first
+        list.push(f.clone().value(PLANAR, 2).entry(PLANAR, 3, 1, 1).bytes());
+        list.push(f.clone().entry(PLANAR, 3, 1, 2).bytes());
+        list.push(f.clone().without(PLANAR).entry(PLANAR, 3, 2, 2 << 16 | 1).bytes());
+        list.push(f.without(PLANAR).entry(PLANAR, 3, 2, 1 << 16 | 2).bytes());
+    };
+    sorts(small(), list);
+    sorts(chunky(2), list);
+    list.push(Small { big: true, ..chunky(2) }.bytes());
+    list.push(Small { big: true, ..chunky(2) }.with(PLANAR, |e| (e.ty, e.value) = (4, 65_538)).bytes());
+    let most = small().value(SAMPLES, 65_535).cz(CHANNELS, 65_535);
+    for f in [small().value(SAMPLES, 0), small().without(SAMPLES), chunky(3), most] {
+        list.push(f.clone().without(PLANAR).bytes());
+        list.push(f.value(PLANAR, 2).bytes());
+    }
+    // the channels' number is still held to the CZ block's, and before it the width
+    list.push(chunky(3).cz(CHANNELS, 2).bytes());
+    list.push(chunky(3).cz(CHANNELS, 1).bytes());
+    list.push(small().cz(CHANNELS, 2).bytes());
+    list.push(chunky(2).cz(CHANNELS, 0).bytes());
+    // strips of any number, in pixels or not; planar ones by the channels
+    for lengths in [&[6][..], &[5, 1], &[1, 5], &[2, 2, 2], &[1, 1, 1, 3], &[0, 6, 0, 0, 0]] {
+        list.push(chunky(3).cut(lengths).bytes());
+        list.push(chunky(3).value(PLANAR, 2).cut(lengths).bytes());
+    }
+    let none = |f: Small| f.with(OFFSETS, |e| e.count = 0).with(COUNTS, |e| e.count = 0);
+    list.push(none(chunky(3)).bytes());
+    list.push(none(chunky(3)).without(PLANAR).bytes());
+    list.push(none(chunky(3).value(PLANAR, 2)).bytes());
+    list.push(chunky(3).without(OFFSETS).without(COUNTS).bytes());
+    // a strip outside the file opens, and so does a total that isn't the picture's
+    for count in [1, 5, 7, 65_535] {
+        list.push(chunky(3).value(COUNTS, count).bytes());
+    }
+    // pages: 1, 3 and none agree, and 2 with none of them; so of one channel. Then the number of channels and of strips
+    for f in [chunky(2), small()] {
+        let two = |first: u64, second: u64| {
+            let of = |value: u64, f: Small| if value == 0 { f.without(PLANAR) } else { f.value(PLANAR, value) };
+            let channels = f.cz[CHANNELS];
+            of(second, of(first, f.clone().cz(Z, 2)).page().value(SAMPLES, channels).value(COUNTS, 2 * channels)).bytes()
+        };
+        for (first, second) in [(1, 1), (1, 3), (3, 0), (0, 1), (2, 2), (1, 2), (2, 0), (0, 2), (2, 3)] {
+            list.push(two(first, second));
+        }
+    }
+    list.push(chunky(2).cz(Z, 2).page().bytes());
+    list.push(chunky(2).cz(Z, 2).page().value(SAMPLES, 3).bytes());
+    list.push(chunky(2).cz(Z, 2).page().value(SAMPLES, 2).with(OFFSETS, |e| e.count = 2).with(COUNTS, |e| e.count = 2).bytes());
+    list.push(chunky(2).reduced().bytes());
+    list.push(chunky(2).reduced().entry(SAMPLES, 3, 1, 5).entry(PLANAR, 3, 1, 2).bytes());
+    // what comes before, which is 3, and after, beside channels that are interleaved
+    let packed = || chunky(2).value(COMPRESSION, 5);
+    for f in [packed(), none(packed()), chunky(2).value(BITS, 9), chunky(2).cz(X, 0), chunky(2).cz(X, 9), chunky(2).without(CZ)] {
+        list.push(f.bytes());
+    }
+    for (p, m) in [(1, 1), (2, 1), (0xffff_ffff, 1), (1, 0x8000_0000)] {
+        list.push(chunky(2).shots(p, m).bytes());
+        list.push(none(chunky(2).shots(p, m)).bytes());
+    }
+    // with time points and scenes: as many pages, and one too few
+    let page = |f: Small| f.page().value(SAMPLES, 2).value(COUNTS, 4);
+    list.push(page(chunky(2).cz(T, 2)).bytes());
+    list.push(chunky(2).cz(T, 2).bytes());
+    list.push(page(page(page(chunky(2).cz(T, 2).shots(2, 1)))).bytes());
+    list.push(page(page(chunky(2).cz(T, 2).shots(2, 1))).bytes());
+    list.push(chunky(2).cz(T, 0).cz(Z, 0).bytes());
+    // colours and names of each channel
+    let mut block = vec![0; 20];
+    block[12] = 20;
+    block[16] = 32;
+    block.extend([1, 2, 3, 0, 4, 5, 6, 0, 7, 8, 9, 0]);
+    for name in [&b"Red"[..], b"", b"Blue\0"] {
+        block.extend([name.len() as u8, 0, 0, 0]);
+        block.extend(name);
+    }
+    list.push(of_channel_block(chunky(3), &block));
+    list.push(of_channel_block(chunky(3), &block[..43]));
+}
+
 // A file that ends with this channel block, or with as much as there is of one.
 fn with_channel_block(block: &[u8]) -> Vec<u8> {
-    let mut f = small();
+    of_channel_block(small(), block)
+}
+
+fn of_channel_block(mut f: Small, block: &[u8]) -> Vec<u8> {
     f.cz[1] = 112;
     f.cz.resize(28, 0);
     f = f.with(CZ, |e| e.count = 112);
@@ -420,6 +540,8 @@ pub fn described() -> (Vec<u8>, Vec<(usize, usize, bool)>) {
         no(14, nan),
         no(14, wide),
         no(15, 2),
+        no(18, 2),
+        no(18, usize::MAX),
         yes(0, 1),
         yes(1, 3),
         yes(3, 0),
@@ -437,6 +559,7 @@ pub fn described() -> (Vec<u8>, Vec<(usize, usize, bool)>) {
         yes(17, 0),
         yes(17, 2),
         yes(17, usize::MAX),
+        yes(18, 1),
     ];
     (f, list)
 }
@@ -451,12 +574,7 @@ fn paged(w: u64, h: u64, pages: &[&[(u64, u64)]]) -> Vec<u8> {
     f.data.clear();
     for (i, strips) in pages.iter().enumerate() {
         f = f.pages((i != 0) as usize).value(WIDTH, w).value(HEIGHT, h).with(WIDTH, |e| e.ty = 4).with(HEIGHT, |e| e.ty = 4);
-        let n = strips.len() as u64;
-        let at = (BLOCK + 28 + f.data.len()) as u64;
-        let array = |e: &mut Entry, place: u64, first: u64| (e.ty, e.count, e.value) = (4, n, if n == 1 { first } else { place });
-        f = f.with(OFFSETS, |e| array(e, at, strips[0].0)).with(COUNTS, |e| array(e, at + 4 * n, strips[0].1));
-        let numbers = strips.iter().map(|s| s.0 as u32).chain(strips.iter().map(|s| s.1 as u32));
-        f.data.extend(numbers.flat_map(u32::to_le_bytes));
+        f = f.strips(strips);
     }
     f.bytes()
 }
@@ -501,6 +619,7 @@ pub fn calls() -> Vec<Call> {
         list.extend((0..2).map(|t| (f.clone(), [0, t, 0, 0], corner)));
     }
     list.extend(calls_of_series());
+    list.extend(calls_of_interleaved());
     list
 }
 
@@ -540,6 +659,100 @@ fn calls_of_series() -> Vec<Call> {
     list.push((series(1, 2, 1, 1), [0, 2, 0, 0], Some([0, 0, 0, 0])));
     list.push((series(1, 2, 1, 1), [0, 1, 0, 0], Some([2, 1, 0, 0])));
     list.push((series(1, 2, 1, 1), [0, 1, 0, 0], Some([0, 0, 3, 1])));
+    list
+}
+
+// A picture of so many interleaved channels, or planar ones, above 4 GiB or just that large, with strips of these lengths outside the file.
+fn large_channels(channels: u64, planar: bool, height: u64, lengths: &[u64]) -> Vec<u8> {
+    let f = small().cz(X, WIDE).cz(Y, height).cz(CHANNELS, channels).value(SAMPLES, channels).value(PLANAR, 1 + planar as u64);
+    let strips: Vec<(u64, u64)> = lengths.iter().map(|&n| (8, n)).collect();
+    f.value(WIDTH, WIDE).value(HEIGHT, height).with(WIDTH, |e| e.ty = 4).with(HEIGHT, |e| e.ty = 4).strips(&strips).bytes()
+}
+
+// Two channels of 4 GiB, and of a row more: the strips hold whole rows, interleaved or planar ones.
+pub fn large_interleaved() -> Vec<Vec<u8>> {
+    let mut list = Vec::new();
+    for planar in [false, true] {
+        list.push(large_channels(2, planar, WIDE, &[HALF; 4]));
+        list.push(large_channels(2, planar, WIDE + 1, &[HALF, HALF + WIDE, HALF, HALF + WIDE]));
+    }
+    list
+}
+
+// Each channel's own samples; strips that end inside pixels and samples; what the strips are held to.
+fn calls_of_interleaved() -> Vec<Call> {
+    let mut list: Vec<Call> = Vec::new();
+    let mut ask = |f: &Small, at: [usize; 4], rects: &[[usize; 4]]| {
+        list.push((f.bytes(), at, None));
+        list.extend(rects.iter().map(|&rect| (f.bytes(), at, Some(rect))));
+    };
+    let second = [1, 0, 1, 1];
+    for channels in [2, 3] {
+        for c in 0..channels + 1 {
+            ask(&chunky(channels as u64), [0, 0, c, 0], &[second]);
+        }
+    }
+    for lengths in [&[5, 1][..], &[1, 5], &[2, 1, 3], &[0, 4, 2]] {
+        for c in 0..3 {
+            ask(&chunky(3).cut(lengths), [0, 0, c, 0], &[second]);
+        }
+    }
+    // 2 x 2 of three channels: a row, a column, a pixel; past it, and empty ones
+    let mut square = chunky(3).value(HEIGHT, 2).cz(Y, 2);
+    square.data = (1..13).collect();
+    let square = square.cut(&[7, 5]);
+    for c in [0, 2] {
+        ask(&square, [0, 0, c, 0], &[[0, 1, 2, 1], [1, 0, 1, 2], [1, 1, 1, 1], [0, 0, 2, 2], [1, 1, 2, 1], [2, 2, 0, 0], [3, 0, 0, 1]]);
+    }
+    // samples of 16 and 32 bits, split by the strips, in both orders
+    for big in [false, true] {
+        let mut f = Small { big, ..chunky(2) }.value(BITS, 16);
+        f.data = (1..9).collect();
+        for c in 0..2 {
+            ask(&f.clone().cut(&[3, 5]), [0, 0, c, 0], &[second]);
+            let mut f = f.clone().value(BITS, 32).value(FORMAT, 3);
+            f.data = (1..17).collect();
+            ask(&f.cut(&[5, 1, 1, 9]), [0, 0, c, 0], &[second]);
+        }
+    }
+    // a byte too few or too many, and as many as one channel has: the strips are held to all channels, for a rectangle too
+    for count in [2, 5, 7] {
+        ask(&chunky(3).value(COUNTS, count), [0; 4], &[[0, 0, 1, 1], [0, 0, 1, 0]]);
+    }
+    // a strip outside the file that the pixel doesn't touch; no strip but one has bytes
+    ask(&chunky(3).strips(&[(36, 3), (1000, 3)]), [0; 4], &[[0, 0, 1, 1]]);
+    ask(&chunky(3).strips(&[(8, 0), (36, 6), (8, 0), (1000, 0)]), [0; 4], &[[0, 0, 1, 1]]);
+    ask(&chunky(3).strips(&[(8, 0), (36, 6), (8, 0)]), [0, 0, 2, 0], &[[1, 0, 1, 1]]);
+    // a picture of 18 bytes, where there is room for 16: 7 has the channel's length, and the rectangle's
+    let mut six = chunky(2).value(WIDTH, 6).cz(X, 6).value(HEIGHT, 3).cz(Y, 3);
+    six.data = (1..37).collect();
+    ask(&six.cut(&[36]), [0, 0, 1, 0], &[[0, 0, 6, 3], [1, 0, 5, 3]]);
+    // pages of time points, planes and scenes: a page has one strip for all channels
+    let page = |f: Small| f.page().value(SAMPLES, 2).value(COUNTS, 4);
+    let mut f = page(page(page(page(page(chunky(2).cz(T, 3).cz(Z, 2))))));
+    f.data = (0..24).collect();
+    for i in 0..6 {
+        f.pages[i].iter_mut().find(|e| e.tag == OFFSETS).expect("the entry").value += 4 * i as u64;
+    }
+    for at in [[0, 0, 0, 0], [0, 0, 1, 1], [0, 1, 0, 0], [0, 2, 1, 0], [0, 2, 0, 1], [0, 3, 0, 0], [0, 0, 2, 0]] {
+        ask(&f, at, &[second]);
+    }
+    // one channel that doesn't say how its samples stand: whole rows above the limit are read by rows
+    let corner = Some([0, 0, 1, 1]);
+    for samples in [0, 1] {
+        let f = small().cz(X, WIDE).cz(Y, WIDE + 1).value(SAMPLES, samples).value(WIDTH, WIDE).value(HEIGHT, WIDE + 1);
+        let f = f.with(WIDTH, |e| e.ty = 4).with(HEIGHT, |e| e.ty = 4).strips(&WHOLE);
+        list.push((f.clone().without(PLANAR).bytes(), [0; 4], corner));
+        list.push((f.value(PLANAR, 2).bytes(), [0; 4], corner));
+    }
+    // two channels of 4 GiB, and of a row more, interleaved and planar: 2 for a strip outside the file, 4 for the picture's size
+    for (i, f) in large_interleaved().into_iter().enumerate() {
+        // the original would reserve the planar one of 4 GiB
+        list.extend((i != 2).then(|| (f.clone(), [0; 4], None)));
+        list.push((f.clone(), [0, 0, 1, 0], corner));
+        list.push((f, [0, 0, 1, 0], Some([WIDE as usize, 0, 1, 1])));
+    }
+    list.push((large_channels(2, false, WIDE + 1, &[HALF; 4]), [0; 4], Some([WIDE as usize, 0, 0, 1])));
     list
 }
 
@@ -707,6 +920,53 @@ pub fn handed_series() -> Vec<Handed> {
     ]
 }
 
+// Interleaved channels where the page counts. The settled inputs of interleaved.rs have more of them.
+pub fn handed_interleaved() -> Vec<Handed> {
+    let first = [0; 4];
+    let corner = Some([0, 0, 1, 1]);
+    let flagged = |sizes: [usize; 7], t: usize| {
+        let mut words = timed(sizes, t, t);
+        words[18] = 1;
+        words
+    };
+    let bytes = || (0..4).flat_map(|i| [i, 1]).collect::<Vec<usize>>();
+    let two = [2, 2, 1, 1, 1, 2, 1];
+    vec![
+        // a page has the strips of all channels once: by planes, by scenes, by time points
+        (flagged(two, 1), vec![0, 2, 2, 2], [0, 0, 1, 0], None),
+        (flagged(two, 1), vec![0, 2, 2, 2], [0, 0, 0, 1], None),
+        (flagged(two, 1), vec![0, 2, 2, 2], [0, 0, 1, 1], corner),
+        (flagged(two, 1), vec![0, 2, 2], [0, 0, 1, 1], corner),
+        (flagged([2, 2, 1, 1, 1, 2, 2], 1), bytes(), [0, 0, 0, 1], None),
+        (flagged([2, 1, 1, 1, 2, 1, 2], 1), bytes(), [1, 0, 1, 0], None),
+        (flagged([2, 1, 1, 1, 2, 1, 2], 1), bytes(), [2, 0, 1, 0], None),
+        (flagged([2, 1, 1, 1, 1, 1, 2], 2), bytes(), [0, 1, 1, 0], None),
+        (flagged([2, 1, 1, 1, 1, 1, 2], 2), bytes(), [0, 2, 1, 0], None),
+        (flagged([2, 1, 1, 1, 1, 1, 2], 3), bytes(), [0, 2, 1, 0], None),
+        (flagged([4, 1, 1, 1, 1, 1, 4], 1), bytes(), [0, 0, 2, 0], corner),
+        // a depth of 0: the page is z, and no test of rows says anything
+        (flagged([2, 2, 1, 1, 1, 0, 1], 1), vec![0, 2, 2, 2], [0, 0, 1, 1], corner),
+        (flagged([2, 2, 1, 2, 1, 0, 1], 1), vec![0, 4, 0, 3], [0, 0, 1, 1], corner),
+        // a page's words, reckoned exactly, and a page number that passes 64 bits
+        (flagged([2, 1, 1, 1, 1, 1, 1 << 63], 1), bytes(), first, None),
+        (flagged([2, 1, 1, 1, 1, 1, usize::MAX], 1), bytes(), first, corner),
+        (flagged([2, 1, 1, 1, 1 << 33, 1 << 32, 1], 2), bytes(), [1 << 32, 0, 0, 0], None),
+        // strips in turn: the sum of place and length passes 64 bits; a strip past what is left
+        (flagged([2, 1, 1, 1, 1, 1, 1], 1), vec![usize::MAX, 2], first, None),
+        (flagged([2, 1, 1, 1, 1, 1, 2], 1), vec![0, 2, 2, usize::MAX], first, None),
+        (flagged([2, 1, 1, 1, 1, 1, 2], 1), vec![0, 3, 0, 0], first, corner),
+        (flagged([2, 1, 1, 1, 1, 1, 2], 1), vec![1, 0, 2, 2], [0, 0, 1, 0], corner),
+        (flagged([4, 1, 1, 1, 1, 1, 2], 1), vec![2, 2, 0, 2], [0, 0, 1, 0], None),
+        // scene; t, c, z; rectangle; empty
+        (flagged([2, 1, 1, 1, 1, 1, 1], 1), vec![], [1, 0, 2, 0], None),
+        (flagged([2, 1, 1, 1, 1, 1, 1], 1), vec![], [0, 0, 2, 0], Some([2, 0, 1, 1])),
+        (flagged([2, 1, 1, 1, 1, 1, 1], 1), vec![], first, Some([2, 0, 1, 1])),
+        (flagged([2, 1, 1, 1, 1, 1, 1], 1), vec![], first, Some([1, 0, 0, 1])),
+        (flagged([2, 1, 1, 1, 1, 1, 1], 1), vec![], first, Some([usize::MAX, 0, 2, 1])),
+        (flagged([2, 1, 1, 1, 1, 1, 1], 1), vec![], first, corner),
+    ]
+}
+
 pub fn files() -> Vec<Vec<u8>> {
     let mut list = Vec::new();
     list.push(small().bytes());
@@ -717,6 +977,7 @@ pub fn files() -> Vec<Vec<u8>> {
     chains(&mut list);
     orders(&mut list);
     times(&mut list);
+    interleaved(&mut list);
     channel_blocks(&mut list);
     list
 }

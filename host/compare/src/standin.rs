@@ -1,8 +1,10 @@
 // A stand-in for the library: it answers with the words of the C interface what a copy of the original answers. With the original
-// itself it shows that the comparison is sound; with an edited copy, that a broken rule is noticed.
+// itself it shows that the comparison is sound; with an edited copy, that a broken rule is noticed. Pictures of interleaved channels, which
+// the original doesn't have, it reads by a way of its own (pixels.rs).
+use crate::pixels::{Call, Pixels};
 use crate::twin::twin;
 use crate::walk::walk;
-use other::probe::{self, Memory, Opened, Picture, Refused};
+use other::probe::{self, Judged, Memory, Opened, Picture, Refused};
 
 /// The words of a description and of each answer, as include/lsm.h counts them. Later versions add words at the end only.
 pub const DESCRIPTION_WORDS: usize = probe::WORDS;
@@ -25,6 +27,7 @@ pub enum Past {
 #[derive(Default)]
 pub struct StandIn {
     pub past: Past,
+    pub pixels: Pixels,
     memory: Memory,
     file: Vec<u8>,
     found: Option<Result<Opened, Refused>>,
@@ -41,7 +44,7 @@ pub const SILENT: usize = 98;
 fn describes(w: &[usize; DESCRIPTION_WORDS]) -> bool {
     let float = |n: usize| u32::try_from(n).is_ok_and(|n| !f32::from_bits(n).is_nan());
     let sizes = w[10] == 0 || (float(w[11]) && float(w[12]) && w[13] <= 3 && (w[13] == 1 || float(w[14])));
-    w[0] <= 1 && w[1] <= 3 && w[10] <= 1 && sizes && w[15] <= 1
+    w[0] <= 1 && w[1] <= 3 && w[10] <= 1 && sizes && w[15] <= 1 && w[18] <= 1
 }
 
 fn say(answer: &mut [usize], words: &[usize]) -> usize {
@@ -92,13 +95,10 @@ impl StandIn {
             self.found = None;
             self.file.clear();
             self.file.extend(file);
-            let mut found = probe::open(&mut self.memory, file);
             let w = walk(file);
-            if probe::is_series(&found) {
-                if let Some(twin) = twin(file, &w) {
-                    found = probe::open_series(&mut self.memory, file, &twin.file, twin.counts);
-                }
-            }
+            let Judged { answer, .. } = probe::judged(&mut self.memory, file, |sort| twin(file, &w, sort.series, sort.interleaved));
+            let silent = || Err(Refused { row: [SILENT, 0, 0, 0, 0], text: "no twin".to_string() });
+            let mut found = answer.unwrap_or_else(silent);
             self.visited = w.visited;
             if let Ok(o) = &mut found {
                 if o.note.is_some() {
@@ -123,6 +123,32 @@ impl StandIn {
             self.handed = probe::handed(&mut self.beside, file, words, table.unwrap_or(&[]));
         }
         self.handed.as_ref()
+    }
+
+    // What it says of a picture, or of a rectangle of it, but for the buffer. `None` where the original can't be given the description.
+    fn read(
+        &mut self,
+        file: &[u8],
+        words: &[usize; DESCRIPTION_WORDS],
+        table: &[usize],
+        at: [usize; 4],
+        rect: Option<[usize; 4]>,
+    ) -> Option<Result<Picture, [usize; 5]>> {
+        let (past, pixels) = (self.past, self.pixels);
+        if words[18] == 1 {
+            return Some(Call { file, words, table, at, rect, pixels }.answer());
+        }
+        let o = self.reader(file, words, Some(table))?;
+        let Some(rect) = rect else {
+            return Some(o.plane(at).map_err(|refused| refused.row));
+        };
+        Some(o.region(at, rect).or_else(|refused| match refused.row[0] {
+            2 if past != Past::AsOriginal => match joined(file, o, at, rect, past == Past::Blank) {
+                Some(bytes) => Ok(Picture { height: rect[3], width: rect[2], bytes }),
+                None => Err(refused.row),
+            },
+            _ => Err(refused.row),
+        }))
     }
 
     pub fn open(&mut self, file: &[u8], table: &mut [usize], answer: &mut [usize; OPEN_WORDS]) -> usize {
@@ -182,22 +208,12 @@ impl StandIn {
         if !describes(description) {
             return say(answer, &[2]);
         }
-        let past = self.past;
-        let Some(o) = self.reader(file, description, Some(table)) else {
-            return say(answer, &[SILENT]);
-        };
-        let found = match rect {
-            None => o.plane(at),
-            Some(rect) => o.region(at, rect).or_else(|refused| match refused.row[0] {
-                2 if past != Past::AsOriginal => match joined(file, o, at, rect, past == Past::Blank) {
-                    Some(bytes) => Ok(Picture { height: rect[3], width: rect[2], bytes }),
-                    None => Err(refused),
-                },
-                _ => Err(refused),
-            }),
+        let found = match self.read(file, description, table, at, rect) {
+            Some(found) => found,
+            None => return say(answer, &[SILENT]),
         };
         match found {
-            Err(r) => say(answer, &r.row),
+            Err(row) => say(answer, &row),
             Ok(p) if out.len() < p.bytes.len() => say(answer, &[7, p.bytes.len()]),
             Ok(p) => {
                 out[..p.bytes.len()].copy_from_slice(&p.bytes);

@@ -57,34 +57,89 @@ fn follow(file: &[u8], w: &mut Walk) -> Option<()> {
     Some(())
 }
 
+// The tags of scalars that opening reads, and of strip arrays.
+const SCALARS: [u64; 8] = [SUBFILE, 256, 257, 258, 259, SAMPLES, PLANAR, 339];
+const ARRAYS: [u64; 2] = [273, 279];
+const SUBFILE: u64 = 254;
+pub const SAMPLES: u64 = 277;
+pub const PLANAR: u64 = 284;
+const CZ: u64 = 34412;
+
+// The numbers of a CZ block: magic, size, five dimensions, three voxel sizes, the channel block's place, P and M.
+const BLOCK: [(usize, usize); 13] =
+    [(0, 4), (4, 4), (8, 4), (12, 4), (16, 4), (20, 4), (24, 4), (40, 8), (48, 8), (56, 8), (108, 4), (264, 4), (268, 4)];
+
+// Of a file whose chain is whole and ends.
 impl Walk {
-    // Places and lengths of all that opening reads besides the CZ block: the header, the directories, and out of line the first value of
-    // a scalar and every value of a strip array. The chain must be whole and end.
-    pub fn read(&self, file: &[u8]) -> Option<Vec<(usize, usize)>> {
-        let mut list = vec![(0, 8)];
+    // The directories' places.
+    fn directories(&self, file: &[u8]) -> Option<Vec<usize>> {
+        let mut list = Vec::new();
         let mut at = number(file, 4, 4, self.big)? as usize;
         while at != 0 {
+            list.push(at);
             let count = number(file, at, 2, self.big)? as usize;
-            list.push((at, 6 + 12 * count));
-            for i in 0..count {
-                list.extend(self.out_of_line(file, at + 2 + 12 * i));
-            }
             at = number(file, at + 2 + 12 * count, 4, self.big)? as usize;
         }
         Some(list)
     }
 
-    // What an entry's value takes elsewhere in the file, if it is read there.
-    fn out_of_line(&self, file: &[u8], entry: usize) -> Option<(usize, usize)> {
+    // The places of a directory's entries.
+    fn entries(&self, file: &[u8], directory: usize) -> Option<impl DoubleEndedIterator<Item = usize>> {
+        let count = number(file, directory, 2, self.big)? as usize;
+        Some((0..count).map(move |i| directory + 2 + 12 * i))
+    }
+
+    // Place and bytes of the values that are read of an entry: the first, or all of a strip array. And whether they stand in the entry itself.
+    fn values(&self, file: &[u8], entry: usize) -> Option<(usize, usize, bool)> {
         let field = |at: usize, n: usize| number(file, entry + at, n, self.big);
         let (tag, size, count) = (field(0, 2)?, size_of(field(2, 2)?), field(4, 4)?);
         let values = match tag {
-            254 | 256..=259 | 277 | 284 | 339 => 1,
-            273 | 279 => count,
-            _ => 0,
+            tag if SCALARS.contains(&tag) => 1,
+            tag if ARRAYS.contains(&tag) => count,
+            _ => return None,
         };
-        let read = 4 < size * count && values != 0;
-        read.then_some((field(8, 4)? as usize, (size * values) as usize))
+        let in_line = size * count <= 4;
+        let at = if in_line { entry + 8 } else { field(8, 4)? as usize };
+        Some((at, (size * values) as usize, in_line))
+    }
+
+    // Places and lengths of all that opening reads, each number by itself where it is more than a place to look at.
+    pub fn read(&self, file: &[u8]) -> Option<Vec<(usize, usize)>> {
+        let mut list = vec![(0, 8)];
+        for at in self.directories(file)? {
+            list.push((at, 2));
+            let mut end = at + 2;
+            for entry in self.entries(file, at)? {
+                // tag, type and count
+                list.push((entry, 8));
+                end = entry + 12;
+                if let Some((at, n, in_line)) = self.values(file, entry) {
+                    list.push((at, n));
+                    list.extend((!in_line).then_some((entry + 8, 4)));
+                } else if number(file, entry, 2, self.big)? == CZ {
+                    list.push((entry + 8, 4));
+                }
+            }
+            list.push((end, 4));
+        }
+        let (block, declared) = self.cz?;
+        list.extend(BLOCK.iter().filter(|&&(at, n)| at + n <= declared).map(|&(at, n)| (block + at, n)));
+        Some(list)
+    }
+
+    // Place and bytes of a tag's value in a directory: of several entries the last counts.
+    fn value(&self, file: &[u8], directory: usize, tag: u64) -> Option<(usize, usize)> {
+        let is = |&entry: &usize| number(file, entry, 2, self.big) == Some(tag);
+        let entry = self.entries(file, directory)?.rfind(is)?;
+        self.values(file, entry).map(|(at, n, _)| (at, n))
+    }
+
+    // Places and bytes of a tag's values on the full pages that have the tag.
+    pub fn of_full_pages(&self, file: &[u8], tag: u64) -> Option<Vec<(usize, usize)>> {
+        let reads = |directory, tag| self.value(file, directory, tag).and_then(|(at, n)| number(file, at, n, self.big));
+        let full = |&directory: &usize| reads(directory, SUBFILE).is_none_or(|n| n & 0b101 == 0);
+        let pages = self.directories(file)?.into_iter().filter(full);
+        Some(pages.filter_map(|directory| self.value(file, directory, tag)).collect())
     }
 
     // The stored Z step as f32 bits in micrometres: one product in f64, then narrowed.

@@ -49,7 +49,7 @@ extern "C" {
 }
 
 /// How many words a description has (`LSM_DESCRIPTION_WORDS`). Later versions add words at the end only.
-pub const DESCRIPTION_WORDS: usize = 18;
+pub const DESCRIPTION_WORDS: usize = 19;
 /// How many words `open` answers.
 pub const OPEN_WORDS: usize = 3 + DESCRIPTION_WORDS;
 /// How many words `channel` answers.

@@ -66,6 +66,7 @@ pub struct Description {
     pub scenes: usize,
     /// Pages of a time point: one for each plane of its depth.
     pub pages_per_time_point: usize,
+    /// Strips of a channel on a page; where the channels are [interleaved](Description::interleaved), of a page.
     pub strips_per_channel: usize,
     /// `None` where the file states no pixel size.
     pub pixel_size: Option<PixelSize>,
@@ -74,6 +75,10 @@ pub struct Description {
     /// Time points of a scene, by which pages are counted. Opening gives the same number as [`Description::t`]. The picture at scene, t,
     /// c, z stands on page (scene × time_points + t) × pages_per_time_point + z.
     pub time_points: usize,
+    /// Whether all strips of a page are every channel's. One after another they then hold the page pixel by pixel, row by row, and of each
+    /// pixel a sample of channel 0, then one of channel 1, and so on. Otherwise a page has strips of channel 0, then as many of channel 1, and
+    /// so on. Opening says so only of several channels.
+    pub interleaved: bool,
 }
 
 impl Description {
@@ -102,6 +107,7 @@ impl Description {
             w[16] = at;
         }
         w[17] = self.time_points;
+        w[18] = self.interleaved as usize;
         w
     }
 
@@ -144,6 +150,11 @@ impl Description {
             1 => Some(w[16]),
             _ => return None,
         };
+        let interleaved = match w[18] {
+            0 => false,
+            1 => true,
+            _ => return None,
+        };
         Some(Description {
             order,
             kind,
@@ -158,6 +169,7 @@ impl Description {
             pixel_size,
             channel_block,
             time_points: w[17],
+            interleaved,
         })
     }
 }

@@ -74,6 +74,7 @@ fn g_opens() {
         pixel_size: None,
         channel_block: None,
         time_points: 1,
+        interleaved: false,
     };
     assert_eq!(opened.description, d);
 }
@@ -112,6 +113,72 @@ fn a_series_opens() {
     let d = opened.description;
     assert_eq!((d.t, d.time_points, d.z, d.scenes, d.pages_per_time_point), (2, 2, 1, 1, 1));
     assert_eq!(lsm::open(&file, &mut []), Err(Refusal::TooShort { needed: 4 }));
+}
+
+// G with three channels of 2 x 2, interleaved: its directory moved to the end with SamplesPerPixel as one more entry, and no
+// PlanarConfiguration. The sample at pixel p of channel c is 16 x p + c. The first strip ends inside pixel 1, and stands behind the second.
+fn interleaved() -> Vec<u8> {
+    let mut f = g();
+    let directory = f.len();
+    let entries = f[10..82].to_vec();
+    f.extend([7, 0]);
+    f.extend(entries);
+    f.extend([0; 16]);
+    put32(&mut f, 4, directory as u32);
+    let entry = |i: usize| directory + 2 + 12 * i;
+    put16(&mut f, entry(1) + 8, 2);
+    put16(&mut f, entry(6), 277);
+    put16(&mut f, entry(6) + 2, 3);
+    put32(&mut f, entry(6) + 4, 1);
+    put16(&mut f, entry(6) + 8, 3);
+    put32(&mut f, 88 + 12, 2);
+    put32(&mut f, 88 + 20, 3);
+    let samples: Vec<u8> = (0..4).flat_map(|p| [16 * p, 16 * p + 1, 16 * p + 2]).collect();
+    let second = f.len();
+    f.extend(&samples[5..]);
+    f.extend(&samples[..5]);
+    for (i, numbers) in [(3, [second + 7, second]), (4, [5, 7])] {
+        put32(&mut f, entry(i) + 4, 2);
+        put16(&mut f, entry(i) + 8, numbers[0] as u16);
+        put16(&mut f, entry(i) + 10, numbers[1] as u16);
+    }
+    f
+}
+
+#[test]
+fn interleaved_channels_open() {
+    let file = interleaved();
+    let mut table = [77; 5];
+    let opened = lsm::open(&file, &mut table).unwrap();
+    assert_eq!((opened.visited, opened.words), (1, 4));
+    let strips = file.len() - 12;
+    assert_eq!(table, [strips + 7, 5, strips, 7, 77]);
+    let d = opened.description;
+    assert_eq!((d.interleaved, d.c, d.y, d.x, d.strips_per_channel), (true, 3, 2, 2, 2));
+    let mut name = [77; 8];
+    for c in 0..3 {
+        assert_eq!(lsm::channel(&file, &d, c, &mut name).map(|found| found.name), Ok(None));
+    }
+    assert_eq!(lsm::channel(&file, &d, 3, &mut name), Err(Refusal::OutOfRange { scene: 0, t: 0, c: 3, z: 0 }));
+}
+
+// The library looks at the flag before anything else.
+#[test]
+fn a_flag_above_1_is_no_description() {
+    let file = interleaved();
+    let mut answer = [0; lsm::c::OPEN_WORDS];
+    assert_eq!(lsm::c::open(&file, &mut [0; 4], &mut answer), 0);
+    let mut words = [0; lsm::c::DESCRIPTION_WORDS];
+    words.copy_from_slice(&answer[3..]);
+    words[18] = 2;
+    let mut said = [77; lsm::c::CHANNEL_WORDS];
+    assert_eq!(lsm::c::channel(&file, &words, 9, &mut [], &mut said), 2);
+    assert_eq!(said, [2, 0, 0, 0, 0, 0, 0, 0]);
+    let mut said = [77; lsm::c::PICTURE_WORDS];
+    assert_eq!(lsm::c::plane(&file, &words, &[], [9; 4], &mut [], &mut said), 2);
+    assert_eq!(said, [2, 0, 0, 0, 0]);
+    assert_eq!(lsm::c::region(&file, &words, &[], [9; 4], [0; 4], &mut [], &mut said), 2);
+    assert_eq!(said, [2, 0, 0, 0, 0]);
 }
 
 #[test]
@@ -218,6 +285,67 @@ mod pictures {
         let refusal = Refusal::OutOfRange { scene: 0, t: 2, c: 0, z: 0 };
         assert_eq!(lsm::plane(&file, &d, &table, 0, 2, 0, 0, &mut out), Err(refusal));
         assert_eq!(out, [77; 2]);
+    }
+
+    #[test]
+    fn samples_of_each_interleaved_channel() {
+        let file = interleaved();
+        let mut table = [0; 4];
+        let d = lsm::open(&file, &mut table).unwrap().description;
+        for c in 0..3 {
+            let sample = |pixel: u8| 16 * pixel + c as u8;
+            let mut out = [77; 5];
+            assert_eq!(lsm::plane(&file, &d, &table, 0, 0, c, 0, &mut out), Ok(Picture { height: 2, width: 2, bytes: 4 }));
+            assert_eq!(out, [sample(0), sample(1), sample(2), sample(3), 77]);
+            // the right column, and each pixel alone
+            let mut out = [77; 3];
+            let right = Rect { x: 1, y: 0, w: 1, h: 2 };
+            let shape = Picture { height: 2, width: 1, bytes: 2 };
+            assert_eq!(lsm::region(&file, &d, &table, 0, 0, c, 0, right, &mut out), Ok(shape));
+            assert_eq!(out, [sample(1), sample(3), 77]);
+            for pixel in 0..4 {
+                let mut out = [77; 1];
+                let one = Rect { x: pixel % 2, y: pixel / 2, w: 1, h: 1 };
+                assert!(lsm::region(&file, &d, &table, 0, 0, c, 0, one, &mut out).is_ok());
+                assert_eq!(out, [sample(pixel as u8)]);
+            }
+        }
+    }
+
+    #[test]
+    fn interleaved_channels_refused() {
+        let file = interleaved();
+        let mut table = [0; 4];
+        let d = lsm::open(&file, &mut table).unwrap().description;
+        let corner = Rect { x: 0, y: 0, w: 1, h: 1 };
+        let empty = Rect { x: 2, y: 0, w: 0, h: 2 };
+        let mut out = [77; 4];
+        let missing = Refusal::OutOfRange { scene: 0, t: 0, c: 3, z: 0 };
+        assert_eq!(lsm::plane(&file, &d, &table, 0, 0, 3, 0, &mut out), Err(missing));
+        assert_eq!(lsm::region(&file, &d, &table, 0, 0, 3, 0, corner, &mut out), Err(missing));
+        assert_eq!(lsm::plane(&file, &d, &table, 0, 0, 2, 0, &mut out[..3]), Err(Refusal::TooShort { needed: 4 }));
+        // A byte too few or too many: a rectangle is held to the whole page's strips, and an empty one to none.
+        for total in [6, 8] {
+            let mut other = table;
+            other[3] = total;
+            assert_eq!(lsm::plane(&file, &d, &other, 0, 0, 0, 0, &mut out), Err(Refusal::Decode));
+            assert_eq!(lsm::region(&file, &d, &other, 0, 0, 0, 0, corner, &mut out), Err(Refusal::Decode));
+            let nothing = Picture { height: 2, width: 0, bytes: 0 };
+            assert_eq!(lsm::region(&file, &d, &other, 0, 0, 0, 0, empty, &mut out), Ok(nothing));
+        }
+        assert_eq!(out, [77; 4]);
+        // A picture above the limit gives no rectangle, whatever rows the strips hold. Of strips that are channel 0's alone, a row of 1 byte
+        // would be had here, and the strip outside the file be refused.
+        let large = Description { y: (1 << 32) + 1, x: 1, ..d };
+        let limit = Refusal::OversizedAllocation { requested: (1 << 32) + 1, cap: 1 << 32 };
+        assert_eq!(lsm::region(&file, &large, &[0, 1, 0, 1 << 32], 0, 0, 0, 0, corner, &mut out), Err(limit));
+        let planar = Description { c: 1, interleaved: false, ..large };
+        assert_eq!(lsm::region(&file, &planar, &[0, 1, 0, 1 << 32], 0, 0, 0, 0, corner, &mut out), Err(Refusal::Decode));
+        // So many channels that their pictures together pass 64 bits.
+        let wide = Description { c: 1 << 62, ..d };
+        let product = Refusal::OversizedAllocation { requested: usize::MAX, cap: 1 << 32 };
+        assert_eq!(lsm::plane(&file, &wide, &[], 0, 0, 0, 0, &mut out), Err(product));
+        assert_eq!(out, [77; 4]);
     }
 
     #[test]

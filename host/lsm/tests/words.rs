@@ -16,6 +16,7 @@ fn plain() -> Description {
         pixel_size: None,
         channel_block: None,
         time_points: 8,
+        interleaved: false,
     }
 }
 
@@ -30,7 +31,7 @@ fn descriptions_go_to_words_and_back() {
             assert_eq!(Description::from_words(&d.words()), Some(d));
         }
     }
-    assert_eq!(plain().words(), [1, 2, 1, 2, 3, 4, 5, 6, 3, 7, 0, 0, 0, 0, 0, 0, 0, 8]);
+    assert_eq!(plain().words(), [1, 2, 1, 2, 3, 4, 5, 6, 3, 7, 0, 0, 0, 0, 0, 0, 0, 8, 0]);
 }
 
 // Any number of time points is a description's, also one that differs from what t is held to.
@@ -43,10 +44,24 @@ fn the_time_points_of_the_layout_are_a_word_of_their_own() {
     }
 }
 
+// The flag is a description's with any number of channels and strips.
+#[test]
+fn interleaved_channels_are_a_word_of_their_own() {
+    for (c, strips_per_channel) in [(3, 1), (1, 1), (0, 0), (2, usize::MAX)] {
+        for (interleaved, word) in [(false, 0), (true, 1)] {
+            let d = Description { c, strips_per_channel, interleaved, ..plain() };
+            assert_eq!((d.words()[3], d.words()[9], d.words()[18]), (c, strips_per_channel, word));
+            assert_eq!(Description::from_words(&d.words()), Some(d));
+        }
+    }
+}
+
 #[test]
 fn words_that_are_no_description() {
     let good = Description { pixel_size: Some(PixelSize { x: 1.0, y: 1.0, z: ZStep::Used(1.0) }), ..plain() }.words();
-    for (at, word) in [(0, 2), (1, 4), (10, 2), (11, 1 << 32), (12, 0x7fc0_0000), (13, 4), (14, 0xff80_0001), (15, 2)] {
+    let choices = [(0, 2), (1, 4), (10, 2), (13, 4), (15, 2), (18, 2), (18, usize::MAX)];
+    let floats = [(11, 1 << 32), (12, 0x7fc0_0000), (14, 0xff80_0001)];
+    for (at, word) in choices.into_iter().chain(floats) {
         let mut w = good;
         w[at] = word;
         assert_eq!(Description::from_words(&w), None, "word {at}");
