@@ -111,7 +111,7 @@ fn component_planes(interleaved: bool, channels: usize) -> usize
 fn check_agreement(page: Directory, info: CzInfo) -> Result<(), Refusal>
     ensures { (o : Order) (f : List ℕ) → answer_of result ≡ agreement (directory_of o f page) (info_of info) }
 {
-    let channels = at_least_one(page.samples);
+    let channels = page.channels();
     let strips = page.offsets.count;
     if info.dim_x != page.width || info.dim_y != page.height {
         return Err(Refusal::Decode);
@@ -153,7 +153,7 @@ pub fn describe(
 {
     check_agreement(page, info)?;
     let layout = layout_for(info, pages)?;
-    let channels = at_least_one(page.samples);
+    let channels = page.channels();
     let interleaved = is_interleaved(channels, page.is_planar());
     Ok(Description {
         endian: e,

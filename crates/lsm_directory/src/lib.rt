@@ -1,13 +1,14 @@
 // One image file directory: its entries, what they state, and what pages agree on.
 #![tactic(auto)]
 
-ghost use Rattle.std.specs.Prelude.{◌≡◌, ℕ, List, option_map};
+ghost use Rattle.std.specs.Prelude.{◌≡◌, ◌<◌, ℕ, List, option_map};
 ghost use Rattle.lsm_format.specs.Code.{order_of, answer_of, answer_by};
 ghost use Rattle.lsm_format.specs.Numbers.{Order};
 ghost use Rattle.lsm_format.specs.Directory as Rule;
-ghost use Rattle.lsm_format.specs.Directory.{plain, planar, tag_of, is_reduced, is_short, cz_lsm_info, entry_by, entry};
-ghost use Rattle.lsm_format.specs.Open.{same_geometry};
+ghost use Rattle.lsm_format.specs.Directory.{plain, planar, tag_of, is_reduced, is_short, sample_bits, cz_lsm_info, entry_by, entry};
+ghost use Rattle.lsm_format.specs.Open.{channels, same_geometry};
 ghost use Rattle.lsm_format.specs.Open as Open;
+ghost use Rattle.lsm_values.specs.Code.{entry_of};
 ghost use Rattle.lsm_directory.specs.Code.{field_meant, tag_meant, numbers_of, directory_of, put_stated, ends_of};
 
 mod bounds;
@@ -16,21 +17,25 @@ pub use bounds::Ends;
 use lsm_bytes::{read_u16, read_u32};
 use lsm_format::error::Refusal;
 use lsm_format::types::{CzTag, Endian};
-use lsm_values::{Entry, StripArray, read_array, read_scalar, tiff_type_size};
+use lsm_values::{
+    Array, Entry, Values, all_equal, read_array, read_scalar, scalar_values, tiff_type_size,
+    value_at,
+};
 
-// What a directory states.
+// What a directory states. Of BitsPerSample it is the first value, and where all of them are.
 #[derive(Clone, Copy)]
 pub struct Directory {
     pub new_subfile_type: u32,
     pub width: u32,
     pub height: u32,
     pub bits: u32,
+    pub bits_values: Option<Values>,
     pub compression: u32,
     pub samples: u32,
     pub planar_configuration: u32,
     pub sample_format: u32,
-    pub offsets: StripArray,
-    pub counts: StripArray,
+    pub offsets: Array,
+    pub counts: Array,
     pub cz: Option<CzTag>,
 }
 
@@ -45,12 +50,13 @@ impl Default for Directory {
             width: 0,
             height: 0,
             bits: 1,
+            bits_values: None,
             compression: 1,
             samples: 1,
             planar_configuration: 1,
             sample_format: 1,
-            offsets: StripArray::EMPTY,
-            counts: StripArray::EMPTY,
+            offsets: Array::EMPTY,
+            counts: Array::EMPTY,
             cz: None,
         }
     }
@@ -63,15 +69,21 @@ impl Directory {
     {
         self.planar_configuration == 2
     }
+
+    // How many channels its page has.
+    pub fn channels(self) -> usize
+        ensures { (result ≡ channels (numbers_of self)) × (0 < result) }
+    {
+        self.samples.max(1) as usize
+    }
 }
 
-// The tags of scalars that are used.
+// The tags of scalars that are used, but for BitsPerSample.
 #[derive(Clone, Copy)]
 pub enum Field {
     NewSubfileType,
     ImageWidth,
     ImageLength,
-    BitsPerSample,
     Compression,
     SamplesPerPixel,
     PlanarConfiguration,
@@ -84,10 +96,7 @@ impl Field {
         ensures { result ≡ is_short (field_meant self) }
     {
         match self {
-            Field::BitsPerSample
-            | Field::Compression
-            | Field::SamplesPerPixel
-            | Field::SampleFormat => true,
+            Field::Compression | Field::SamplesPerPixel | Field::SampleFormat => true,
             Field::NewSubfileType
             | Field::ImageWidth
             | Field::ImageLength
@@ -100,6 +109,7 @@ impl Field {
 #[derive(Clone, Copy)]
 pub enum Tag {
     Field(Field),
+    SampleBits,
     StripOffsets,
     StripByteCounts,
     CzLsmInfo,
@@ -114,7 +124,7 @@ impl From<u16> for Tag {
             254 => Tag::Field(Field::NewSubfileType),
             256 => Tag::Field(Field::ImageWidth),
             257 => Tag::Field(Field::ImageLength),
-            258 => Tag::Field(Field::BitsPerSample),
+            258 => Tag::SampleBits,
             259 => Tag::Field(Field::Compression),
             273 => Tag::StripOffsets,
             277 => Tag::Field(Field::SamplesPerPixel),
@@ -132,8 +142,9 @@ impl From<u16> for Tag {
 #[derive(Clone, Copy)]
 pub enum Value {
     Scalar(Field, u32),
-    Offsets(StripArray),
-    Counts(StripArray),
+    Bits(u32, Values),
+    Offsets(Array),
+    Counts(Array),
     Cz(CzTag),
     Nothing,
 }
@@ -156,7 +167,6 @@ pub fn put_value(d: Directory, v: Value) -> Directory
         },
         Value::Scalar(Field::ImageWidth, width) => Directory { width, ..d },
         Value::Scalar(Field::ImageLength, height) => Directory { height, ..d },
-        Value::Scalar(Field::BitsPerSample, bits) => Directory { bits, ..d },
         Value::Scalar(Field::Compression, compression) => Directory { compression, ..d },
         Value::Scalar(Field::SamplesPerPixel, samples) => Directory { samples, ..d },
         Value::Scalar(Field::PlanarConfiguration, planar_configuration) => Directory {
@@ -164,11 +174,29 @@ pub fn put_value(d: Directory, v: Value) -> Directory
             ..d
         },
         Value::Scalar(Field::SampleFormat, sample_format) => Directory { sample_format, ..d },
+        Value::Bits(bits, values) => Directory {
+            bits,
+            bits_values: Some(values),
+            ..d
+        },
         Value::Offsets(offsets) => Directory { offsets, ..d },
         Value::Counts(counts) => Directory { counts, ..d },
         Value::Cz(tag) => Directory { cz: Some(tag), ..d },
         Value::Nothing => d,
     }
+}
+
+// The entry of BitsPerSample: its first value, and where all of them are. The others are read when the directory is whole.
+#[tactic(auto, unfolding(lsm_format::specs::Directory::scalar, lsm_format::specs::Answer::bind))]
+fn bits_value(buf: &[u8], entry: Entry, e: Endian) -> Result<Value, Refusal>
+    ensures { (d : Rule.Directory) → answer_by (λ s. put_stated (order_of e) buf.now s d) result ≡ entry_by sample_bits (order_of e) buf.now entry.ty entry.count entry.off d }
+{
+    let values = scalar_values(buf, entry, e)?;
+    let bits = value_at(buf, values.ty, values.place, e)?;
+    if 65_535 < bits {
+        return Err(Refusal::Decode);
+    }
+    Ok(Value::Bits(bits, values))
 }
 
 // The CZ entry: its values never fit into four bytes, so it holds an offset.
@@ -200,6 +228,7 @@ fn value_by(buf: &[u8], t: Tag, entry: Entry, e: Endian) -> Result<Value, Refusa
             }
             Ok(Value::Scalar(field, v))
         }
+        Tag::SampleBits => bits_value(buf, entry, e),
         Tag::StripOffsets => Ok(Value::Offsets(read_array(buf, entry, e)?)),
         Tag::StripByteCounts => Ok(Value::Counts(read_array(buf, entry, e)?)),
         Tag::CzLsmInfo => cz_value(buf, entry, e),
@@ -243,11 +272,28 @@ fn same_geometry(a: Directory, b: Directory) -> bool
         && a.is_planar() == b.is_planar()
 }
 
-// Whether a directory whose entries are all read can stand where it does: it has as many strip lengths as offsets, and a full page
-// agrees with the first.
+// Whether the channels of a full page have the same bits: one value for all of them, or as many equal ones as there are channels.
+#[tactic(auto, unfolding(lsm_format::specs::Answer::bind))]
+fn even_bits(buf: &[u8], d: Directory, e: Endian) -> Result<(), Refusal>
+    ensures { answer_of result ≡ Open.even_bits (option_map entry_of d.bits_values) (order_of e) buf.now (directory_of (order_of e) buf.now d) }
+{
+    let Some(values) = d.bits_values else {
+        return Ok(());
+    };
+    if values.count == 1 {
+        return Ok(());
+    }
+    if values.count != d.channels() {
+        return Err(Refusal::UnevenBits);
+    }
+    all_equal(buf, values, d.bits, e)
+}
+
+// Whether a directory whose entries are all read can stand where it does: it has as many strip lengths as offsets, and a full page has the same
+// bits for all its channels and agrees with the first one.
 #[tactic(auto, unfolding(lsm_format::specs::Open::agrees, lsm_format::specs::Answer::bind), using(crate::proofs::Laws::lengths))]
-pub fn agrees(first: Option<Directory>, d: Directory) -> Result<(), Refusal>
-    ensures { (o : Order) (f : List ℕ) → answer_of result ≡ Open.agrees (option_map (directory_of o f) first) (directory_of o f d) }
+pub fn agrees(buf: &[u8], first: Option<Directory>, d: Directory, e: Endian) -> Result<(), Refusal>
+    ensures { answer_of result ≡ Open.agrees (order_of e) buf.now (option_map (directory_of (order_of e) buf.now) first) (directory_of (order_of e) buf.now d) }
 {
     if d.offsets.count != d.counts.count {
         return Err(Refusal::Decode);
@@ -255,6 +301,7 @@ pub fn agrees(first: Option<Directory>, d: Directory) -> Result<(), Refusal>
     if is_reduced(d.new_subfile_type) {
         return Ok(());
     }
+    even_bits(buf, d, e)?;
     let Some(page) = first else {
         return Ok(());
     };

@@ -12,7 +12,7 @@ use lib.ListN.{length}
 use borrow.Author.Tests.{eq-eqb, ne_eqb, eqb-true, leb-true, leb-false, le-leb, lt-leb, lt-ltb, le-ltb}
 use Rattle.lsm_format.specs.Answer.{Result, accepted, refused, bind, need, parse, decode}
 use Rattle.lsm_format.specs.Numbers.{Order, number_at, u16_at, u32_at}
-use Rattle.lsm_format.specs.Directory.{among, type_size, integer_size, value_at, values_at, value_place, entry_values, scalar_values, scalar, array_values, array, Directory, Field, is_short, put, put_field, Tag, cz_lsm_info, put_cz, tag_of, entry_by, entry}
+use Rattle.lsm_format.specs.Directory.{among, type_size, integer_size, value_at, values_at, value_place, entry_values, scalar_values, scalar, array_values, array, Values, Directory, Field, is_short, put, put_field, Tag, cz_lsm_info, put_cz, tag_of, entry_by, entry}
 use Rattle.lsm_format.proofs.Numbers.{number_past, number_there}
 use Rattle.lsm_format.proofs.Accepting.{not_both}
 use Rattle.lsm_format.proofs.Apart.{no_case}
@@ -248,10 +248,12 @@ module _ (o : Order) (f : List ℕ) (e : ℕ) (d : Directory) where
 -- ---- scalars
 
 -- directories with the same numbers, field by field
-pub same_scalars : (s u : Field → ℕ) (offsets counts : List ℕ) (cz : Option (ℕ × ℕ)) → ((t : Field) → s t ≡ u t) →
-    ◌≡◌ {A = Directory} (record { scalars = s; offsets = offsets; counts = counts; cz = cz }) (record { scalars = u; offsets = offsets; counts = counts; cz = cz })
-same_scalars s u offsets counts cz h =
-    ap {B = Directory} (λ (x : Field → ℕ). record { scalars = x; offsets = offsets; counts = counts; cz = cz }) (fun_ext h)
+pub same_scalars : (s u : Field → ℕ) (bits : Option Values) (offsets counts : List ℕ) (cz : Option (ℕ × ℕ)) → ((t : Field) → s t ≡ u t) →
+    ◌≡◌ {A = Directory}
+    (record { scalars = s; bits = bits; offsets = offsets; counts = counts; cz = cz })
+    (record { scalars = u; bits = bits; offsets = offsets; counts = counts; cz = cz })
+same_scalars s u bits offsets counts cz h =
+    ap {B = Directory} (λ (x : Field → ℕ). record { scalars = x; bits = bits; offsets = offsets; counts = counts; cz = cz }) (fun_ext h)
 
 -- ---- the value of a field
 

@@ -8,10 +8,10 @@ use mathlib.Core.List.{List, [], ◌∷◌, ◌++◌, append_assoc}
 use lib.Dec.{eqb}
 use lib.ListN.{length, get_or}
 use borrow.Author.Tests.{eq-eqb, ne_eqb}
-use Rattle.lsm_format.specs.Answer.{accepted, refused, bind, need, parse, decode, unsupported}
+use Rattle.lsm_format.specs.Answer.{accepted, refused, bind, parse}
 use Rattle.lsm_format.specs.Numbers.{Order}
-use Rattle.lsm_format.specs.Directory.{Field, Directory, plain, reduced, planar, entry, entries, ends, directory}
-use Rattle.lsm_format.specs.Open.{geometry, same_on, same_geometry, agrees_with, agrees, Page, Walk, earlier, joined, join, chain, strip_words, table_words}
+use Rattle.lsm_format.specs.Directory.{Field, Directory, plain, planar, entry, entries, ends, directory}
+use Rattle.lsm_format.specs.Open.{geometry, same_on, agrees_with, agrees, Page, Walk, earlier, joined, join, chain, strip_words, table_words}
 
 -- one entry more: the entries from the i-th on
 pub entries_next : (n : ℕ) (o : Order) (f : List ℕ) (base i : ℕ) (d e : Directory) → entry o f (base + 12 * i) d ≡ accepted e →
@@ -42,26 +42,6 @@ same_flag false = refl
 pub agrees_self : (d : Directory) → agrees_with (Some d) d ≡ accepted tt
 unfolding bind
 agrees_self d = rw (same_on_self geometry d, same_flag (planar d), eq-eqb (length d.offsets) (length d.offsets) refl)
-
-module _ (first : Option Directory) (d : Directory) where
-  pub agrees_unequal : (length d.offsets ≡ length d.counts → ⊥) → refused decode ≡ agrees first d
-  unfolding agrees bind
-  agrees_unequal h = rw (ne_eqb (length d.offsets) (length d.counts) h)
-
-  module _ (e : length d.offsets ≡ length d.counts) where
-    pub agrees_reduced : reduced d ≡ true → accepted tt ≡ agrees first d
-    unfolding agrees bind
-    agrees_reduced b = rw (eq-eqb (length d.offsets) (length d.counts) e, b)
-
-    module _ (b : reduced d ≡ false) where
-      pub agrees_first : first ≡ None → accepted tt ≡ agrees first d
-      unfolding agrees bind
-      agrees_first h = rw (eq-eqb (length d.offsets) (length d.counts) e, b, h)
-
-      pub agrees_later : (p : Directory) → first ≡ Some p → (g : Bool) → g ≡ same_geometry d p → (n m : ℕ) → length d.offsets ≡ n → length p.offsets ≡ m →
-          bind (need unsupported g) (λ _. need decode (eqb n m)) ≡ agrees first d
-      unfolding agrees bind
-      agrees_later p h g same n m ns ms = rw (eq-eqb (length d.offsets) (length d.counts) e, b, h, same, ← ns, ← ms)
 
 -- ---- the chain
 
@@ -95,11 +75,11 @@ module _ (o : Order) (f : List ℕ) (place : ℕ) (w : Walk) (z : place ≡ 0 �
     chain_stop row e = rw (ne_eqb place 0 z, h, e)
 
     module _ (d : Directory) (e : entries n o f (place + 2) 0 plain ≡ accepted d) where
-      pub chain_disagrees : (row : List ℕ) → agrees w.first d ≡ refused row → chain (suc k) (eqb place 0) o f place w ≡ refused row
+      pub chain_disagrees : (row : List ℕ) → agrees o f w.first d ≡ refused row → chain (suc k) (eqb place 0) o f place w ≡ refused row
       unfolding chain directory join bind
       chain_disagrees row a = rw (ne_eqb place 0 z, h, e, a)
 
-      pub chain_turn : agrees w.first d ≡ accepted tt → chain (suc k) (eqb place 0) o f place w ≡ chain k (eqb next 0) o f next (joined w d)
+      pub chain_turn : agrees o f w.first d ≡ accepted tt → chain (suc k) (eqb place 0) o f place w ≡ chain k (eqb next 0) o f next (joined w d)
       unfolding chain directory join bind
       chain_turn a = rw (ne_eqb place 0 z, h, e, a)
 

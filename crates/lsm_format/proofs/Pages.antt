@@ -13,7 +13,7 @@ use borrow.Author.Tests.{eqb-true}
 use Rattle.lsm_format.specs.Answer.{accepted, need, decode, unsupported}
 use Rattle.lsm_format.specs.Numbers.{Order, u32_at}
 use Rattle.lsm_format.specs.Directory.{Directory, reduced, directory}
-use Rattle.lsm_format.specs.Open.{same_geometry, agrees_with, agrees, Page, Walk, start, earlier, arrays_of, join, chain, walk, strip_words, table_words}
+use Rattle.lsm_format.specs.Open.{same_geometry, agrees_with, even_bits, agrees, Page, Walk, start, earlier, arrays_of, join, chain, walk, strip_words, table_words}
 use Rattle.lsm_format.proofs.Accepting.{Accepting, accepting_bind, accepting_then, accepting_need, accepting_map, accepting_told}
 use Rattle.lsm_format.proofs.Open.{strip_words_length, table_words_append}
 
@@ -38,17 +38,19 @@ with_strips (Some p) d =
     accepting_then _ (need unsupported (same_geometry d p)) _ (λ _.
     accepting_equal decode (length d.offsets) (length p.offsets))
 
-agrees_strips : (first : Option Directory) (d : Directory) →
-    Accepting (λ (u : Unit {0}). Pairs d × SameStrips (cond (reduced d) None first) d) (agrees first d)
+agrees_strips : (o : Order) (f : List ℕ) (first : Option Directory) (d : Directory) →
+    Accepting (λ (u : Unit {0}). Pairs d × SameStrips (cond (reduced d) None first) d) (agrees o f first d)
 unfolding agrees Pairs
-agrees_strips first d =
+agrees_strips o f first d =
     accepting_bind _ _ _ _ (accepting_equal decode (length d.offsets) (length d.counts)) (λ _ pairs.
-    accepting_map (λ (u : Unit {0}). SameStrips (cond (reduced d) None first) d) _ _ (λ _ s. (pairs, s)) (with_strips _ d))
+    accepting_then _ (even_bits (cond (reduced d) None d.bits) o f d) _ (λ _.
+    accepting_map (λ (u : Unit {0}). SameStrips (cond (reduced d) None first) d) _ _ (λ _ s. (pairs, s)) (with_strips _ d)))
 
 -- a directory that agrees has as many strip lengths as offsets
-pub agreed_arrays : (first : Option Directory) (d : Directory) → agrees first d ≡ accepted tt → length d.offsets ≡ length d.counts
+pub agreed_arrays : (o : Order) (f : List ℕ) (first : Option Directory) (d : Directory) → agrees o f first d ≡ accepted tt →
+    length d.offsets ≡ length d.counts
 unfolding Pairs
-agreed_arrays first d a = (accepting_told _ _ _ (agrees_strips first d) a).0
+agreed_arrays o f first d a = (accepting_told _ _ _ (agrees_strips o f first d) a).0
 
 -- as many words as two for each strip of the first page, on every page
 unfoldable pub Even : Option Directory → List Page → Type 0
@@ -70,10 +72,10 @@ even_by true (Some q) ps d e p s = rw append-nil e
 even_by false None ps d e p s = rw e (even_more (length d.offsets) [] d p refl (sym (rw (zero-mul, zero-mul))))
 even_by false (Some q) ps d e p s = even_more (length q.offsets) ps d p (sym s) e
 
-join_even : (w : Walk) (d : Directory) → Even w.first w.pages → Accepting (λ (v : Walk). Even v.first v.pages) (join w d)
+join_even : (o : Order) (f : List ℕ) (w : Walk) (d : Directory) → Even w.first w.pages → Accepting (λ (v : Walk). Even v.first v.pages) (join o f w d)
 unfolding join Accepting
-join_even w d e =
-    accepting_bind _ _ _ _ (agrees_strips w.first d) (λ _ s. even_by (reduced d) w.first w.pages d e s.0 s.1)
+join_even o f w d e =
+    accepting_bind _ _ _ _ (agrees_strips o f w.first d) (λ _ s. even_by (reduced d) w.first w.pages d e s.0 s.1)
 
 chain_even : (n : ℕ) (b : Bool) (o : Order) (f : List ℕ) (place : ℕ) (w : Walk) → Even w.first w.pages →
     Accepting (λ (v : Walk). Even v.first v.pages) (chain n b o f place w)
@@ -83,7 +85,7 @@ chain_even zero false o f place w e = tt
 chain_even (suc n) true o f place w e = e
 chain_even (suc n) false o f place w e =
     accepting_then _ (directory o f place) _ (λ d.
-    accepting_bind _ _ _ _ (join_even w d.0 e) (λ v h. chain_even n (eqb d.1 0) o f d.1 v h))
+    accepting_bind _ _ _ _ (join_even o f w d.0 e) (λ v h. chain_even n (eqb d.1 0) o f d.1 v h))
 
 pub walk_even : (o : Order) (f : List ℕ) → Accepting (λ (v : Walk). Even v.first v.pages) (walk o f)
 unfolding walk Even

@@ -15,7 +15,7 @@ use Rattle.lsm_format.specs.Sizes.{Kind, sample_size, picture_limit, picture_byt
 use Rattle.lsm_format.specs.Rectangle.{Rect, Coordinate, rectangle, is_empty}
 use Rattle.lsm_format.specs.Scenes.{pages, page_of}
 use Rattle.lsm_format.specs.Open.{Description}
-use Rattle.lsm_format.specs.Picture.{Strips, Samples, count_of, total, inside, stored, bytes, to_little, each_sample, pixel_samples, has_page, strips_on, channel_strips, coordinate_there, joined_size, plane_strips, plane_from, sample_place, stored_picture, channel_picture, samples_in, whole_picture, plane, row_bytes, whole_strips, rows_in, whole_channel, whole_rows_of, whole_channels, whole_page, whole_pages, whole_rows, window_end, row_strips, window_strips, strips_by, region_strips, no_strips, filled_strips, region_from, region}
+use Rattle.lsm_format.specs.Picture.{Strips, Samples, count_of, total, inside, stored, to_little, each_sample, pixel_samples, has_page, strips_on, channel_strips, coordinate_there, plane_strips, plane_from, sample_place, stored_picture, channel_picture, samples_in, whole_picture, plane, row_bytes, whole_strips, rows_in, whole_channel, whole_rows_of, whole_channels, whole_page, whole_pages, whole_rows, window_end, row_strips, window_strips, strips_by, region_strips, no_strips, filled_strips, region_from, region}
 use Rattle.lsm_format.proofs.Picture.{held, picture, Even, bytes_length, window_length, window_at, bind_then, need_true, size_is, size_fits, joined_size_fits, coordinate_channel, rectangle_within, channel_page, channel_own, turn_total, strips_nowhere, plane_accepted}
 use Rattle.lsm_format.proofs.Accepting.{both_hold}
 use Rattle.lsm_format.proofs.Apart.{no_case}

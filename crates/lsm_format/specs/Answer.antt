@@ -1,4 +1,4 @@
--- What a rule answers: a value, or one of document 01's numbered refusals.
+-- What a rule answers: a value, or one of the papers' numbered refusals.
 use Rattle.std.specs.Prelude.{ℕ, Bool, true, false, List, [], ◌∷◌, Option, None, Some}
 
 -- A refusal is a row of document 01's table "Returned, When, Left in lent memory": its number, then its values in the
@@ -51,3 +51,7 @@ out_of_range scene t c z = 6 ∷ scene ∷ t ∷ c ∷ z ∷ []
 -- "7, length needed: added: strip table (in words), sample buffer or name buffer (in bytes) too short"
 abbrev pub too_short : ℕ → List ℕ
 too_short needed = 7 ∷ needed ∷ []
+
+-- Document 02, request 3: "8, uneven bits or a wrong count". "New numbers, here and later, [..] carry no figures and write nothing."
+abbrev pub uneven_bits : List ℕ
+uneven_bits = 8 ∷ []

@@ -1,6 +1,6 @@
 -- One image file directory (lsm_reader.rs, parse_ifd; TIFF 6.0, section 2, "Image File Directory").
 use Rattle.std.specs.Prelude.{ℕ, zero, suc, ◌+◌, ◌*◌, ◌/◌, ◌%◌, Bool, true, false, not, ◌||◌, cond, List, [], ◌∷◌, leb, ltb, eqb, Option, None, Some}
-use Rattle.lsm_format.specs.Answer.{Result, accepted, bind, need, given, decode}
+use Rattle.lsm_format.specs.Answer.{Result, accepted, bind, need, given, decode, uneven_bits}
 use Rattle.lsm_format.specs.Ranges.{Ranges, nothing, both, over, in_file}
 use Rattle.lsm_format.specs.Numbers.{Order, number_at, u16_at, u32_at}
 
@@ -34,6 +34,13 @@ unfoldable pub values_at : ℕ → ℕ → Order → List ℕ → ℕ → Result
 values_at zero type o f p = accepted []
 values_at (suc n) type o f p = bind (value_at type o f p) (λ v. bind (values_at n type o f (p + type_size type)) (λ vs. accepted (v ∷ vs)))
 
+-- n values of a type from a place on, all of them v: "all values equal", "in turn, each compared before the next".
+unfoldable pub all_equal : ℕ → ℕ → ℕ → Order → List ℕ → ℕ → Result (Unit {0})
+all_equal zero v type o f p = accepted tt
+all_equal (suc n) v type o f p =
+    bind (value_at type o f p) (λ w.
+    bind (need uneven_bits (eqb w v)) (λ _. all_equal n v type o f (p + type_size type)))
+
 -- The values of an entry: where the first stands, their type, and how many they are.
 pub record Values : Type 0 where
   pub place : ℕ
@@ -59,7 +66,7 @@ unfoldable pub scalar_values : Order → List ℕ → ℕ → ℕ → ℕ → Re
 scalar_values o f type count place =
     bind (entry_values o f type count place) (λ v. bind (need decode (not (eqb v.count 0))) (λ _. accepted v))
 
--- The first value: "of several BitsPerSample values only the first counts".
+-- The first value: "of several BitsPerSample values only the first counts", until a page's directory is whole (`even_bits` in Open).
 unfoldable pub scalar : Order → List ℕ → ℕ → ℕ → ℕ → Result ℕ
 scalar o f type count place = bind (scalar_values o f type count place) (λ v. value_at v.type o f v.place)
 
@@ -78,9 +85,11 @@ array o f type count place = bind (array_values o f type count place) (λ v. val
 pub data Field : Type 0 where
   new_subfile_type image_width image_length bits_per_sample compression samples_per_pixel planar_configuration sample_format : Field
 
--- What a directory states: the number of each scalar; the strip arrays; of the CZ entry, the block's offset and its declared bytes.
+-- What a directory states: the number of each scalar; of BitsPerSample, all its values by their place; the strip arrays; of the CZ entry, the
+-- block's offset and its declared bytes.
 pub record Directory : Type 0 where
   pub scalars : Field → ℕ
+  pub bits : Option Values
   pub offsets : List ℕ
   pub counts : List ℕ
   pub cz : Option (ℕ × ℕ)
@@ -99,7 +108,7 @@ defaults sample_format = 1
 
 -- "Absent, [..] strip arrays empty"
 abbrev pub plain : Directory
-plain = record { scalars = defaults; offsets = []; counts = []; cz = None }
+plain = record { scalars = defaults; bits = None; offsets = []; counts = []; cz = None }
 
 -- "NewSubfileType with bit 0 or 2 set marks a reduced page"
 abbrev pub is_reduced : ℕ → Bool
@@ -127,14 +136,14 @@ tag_number sample_format = 339
 
 pub data Tag : Type 0 where
   field : Field → Tag
-  strip_offsets strip_byte_counts cz_lsm_info other : Tag
+  sample_bits strip_offsets strip_byte_counts cz_lsm_info other : Tag
 
 abbrev pub tag_of : ℕ → Tag
 tag_of t =
     cond (eqb t (tag_number new_subfile_type)) (field new_subfile_type)
     (cond (eqb t (tag_number image_width)) (field image_width)
     (cond (eqb t (tag_number image_length)) (field image_length)
-    (cond (eqb t (tag_number bits_per_sample)) (field bits_per_sample)
+    (cond (eqb t (tag_number bits_per_sample)) sample_bits
     (cond (eqb t (tag_number compression)) (field compression)
     (cond (eqb t 273) strip_offsets
     (cond (eqb t (tag_number samples_per_pixel)) (field samples_per_pixel)
@@ -146,16 +155,25 @@ tag_of t =
 -- The directory with what an entry states: "of a repeated tag the last wins".
 abbrev pub put : Field → ℕ → Directory → Directory
 put t v d =
-    record { scalars = λ s. cond (eqb (tag_number s) (tag_number t)) v (d.scalars s); offsets = d.offsets; counts = d.counts; cz = d.cz }
+    record {
+      scalars = λ s. cond (eqb (tag_number s) (tag_number t)) v (d.scalars s);
+      bits = d.bits;
+      offsets = d.offsets;
+      counts = d.counts;
+      cz = d.cz;
+    }
+
+abbrev pub put_bits : Values → Directory → Directory
+put_bits v d = record { scalars = d.scalars; bits = Some v; offsets = d.offsets; counts = d.counts; cz = d.cz }
 
 abbrev pub put_offsets : List ℕ → Directory → Directory
-put_offsets a d = record { scalars = d.scalars; offsets = a; counts = d.counts; cz = d.cz }
+put_offsets a d = record { scalars = d.scalars; bits = d.bits; offsets = a; counts = d.counts; cz = d.cz }
 
 abbrev pub put_counts : List ℕ → Directory → Directory
-put_counts a d = record { scalars = d.scalars; offsets = d.offsets; counts = a; cz = d.cz }
+put_counts a d = record { scalars = d.scalars; bits = d.bits; offsets = d.offsets; counts = a; cz = d.cz }
 
 abbrev pub put_cz : ℕ → ℕ → Directory → Directory
-put_cz offset declared d = record { scalars = d.scalars; offsets = d.offsets; counts = d.counts; cz = Some (offset, declared) }
+put_cz offset declared d = record { scalars = d.scalars; bits = d.bits; offsets = d.offsets; counts = d.counts; cz = Some (offset, declared) }
 
 -- "SamplesPerPixel, BitsPerSample, SampleFormat or Compression above 65,535, is Decode"
 abbrev pub is_short : Field → Bool
@@ -174,6 +192,11 @@ put_field t v d = bind (need decode (not (is_short t) || leb v 65535)) (λ _. ac
 -- An entry: its tag, type and count, and the place of its value or offset.
 abbrev pub entry_by : Tag → Order → List ℕ → ℕ → ℕ → ℕ → Directory → Result Directory
 entry_by (field t) o f type count place d = bind (scalar o f type count place) (λ v. put_field t v d)
+-- BitsPerSample is read as any scalar; its other values are read when the directory is whole, if at all.
+entry_by sample_bits o f type count place d =
+    bind (scalar_values o f type count place) (λ vs.
+    bind (value_at vs.type o f vs.place) (λ v.
+    bind (put_field bits_per_sample v d) (λ e. accepted (put_bits vs e))))
 entry_by strip_offsets o f type count place d = bind (array o f type count place) (λ a. accepted (put_offsets a d))
 entry_by strip_byte_counts o f type count place d = bind (array o f type count place) (λ a. accepted (put_counts a d))
 -- "A CZ entry (tag 34412) of at most 4 bytes [..] is Decode", whatever its type.
@@ -210,6 +233,14 @@ directory o f place = bind (ends o f place) (λ e. bind (entries e.0 o f (place 
 abbrev pub value_ranges : ℕ → ℕ → List ℕ → ℕ → Ranges
 value_ranges n type f p = over (given decode (integer_size type)) (λ size. in_file f p (size * n))
 
+-- The bytes of values that are read "in turn, each compared before the next": up to the first that differs from v.
+unfoldable pub equal_ranges : ℕ → ℕ → ℕ → Order → List ℕ → ℕ → Ranges
+equal_ranges zero v type o f p = nothing
+equal_ranges (suc n) v type o f p =
+    both (value_ranges 1 type f p)
+    (over (value_at type o f p) (λ w.
+    over (need uneven_bits (eqb w v)) (λ _. equal_ranges n v type o f (p + type_size type))))
+
 -- "out of line, the first value of each entry of a scalar tag the reader uses"
 abbrev pub scalar_ranges : Order → List ℕ → ℕ → ℕ → ℕ → Ranges
 scalar_ranges o f type count place = over (scalar_values o f type count place) (λ v. value_ranges 1 v.type f v.place)
@@ -220,6 +251,7 @@ array_ranges o f type count place = over (array_values o f type count place) (λ
 
 abbrev pub entry_by_ranges : Tag → Order → List ℕ → ℕ → ℕ → ℕ → Ranges
 entry_by_ranges (field t) o f type count place = scalar_ranges o f type count place
+entry_by_ranges sample_bits o f type count place = scalar_ranges o f type count place
 entry_by_ranges strip_offsets o f type count place = array_ranges o f type count place
 entry_by_ranges strip_byte_counts o f type count place = array_ranges o f type count place
 entry_by_ranges cz_lsm_info o f type count place = nothing

@@ -1,7 +1,7 @@
 -- Opening a file (lsm_reader.rs, read_tiff_header, parse_lsm, open; io.rs).
-use Rattle.std.specs.Prelude.{ℕ, zero, suc, ◌+◌, ◌/◌, ◌%◌, max, Bool, true, false, not, ◌&&◌, ◌||◌, cond, List, [], ◌∷◌, ◌++◌, leb, eqb, length, get_or, Option, None, Some}
+use Rattle.std.specs.Prelude.{ℕ, zero, suc, ◌+◌, ◌-◌, ◌/◌, ◌%◌, max, Bool, true, false, not, ◌&&◌, ◌||◌, cond, List, [], ◌∷◌, ◌++◌, leb, eqb, length, get_or, Option, None, Some}
 use Rattle.std.specs.Bool.{beq}
-use Rattle.lsm_format.specs.Answer.{Result, accepted, refused, bind, need, given, parse, decode, unsupported, oversized_allocation}
+use Rattle.lsm_format.specs.Answer.{Result, accepted, refused, bind, need, given, parse, decode, unsupported, oversized_allocation, uneven_bits}
 use Rattle.lsm_format.specs.Ranges.{Ranges, nothing, both, over, in_file}
 use Rattle.lsm_format.specs.Numbers.{Order, little, big, u16_at, u32_at}
 use Rattle.lsm_format.specs.Sizes.{Kind, u8, u16, i16, f32}
@@ -10,7 +10,7 @@ use Rattle.lsm_format.specs.Scenes.{Layout, layout, pages_expected}
 use Rattle.lsm_format.specs.Lent.{lend, filled}
 use Rattle.lsm_format.specs.Calibration.{Calibration}
 use Rattle.lsm_format.specs.CzInfo.{CzInfo, cz_info, cz_ranges}
-use Rattle.lsm_format.specs.Directory.{Field, image_width, image_length, bits_per_sample, compression, samples_per_pixel, sample_format, Directory, reduced, planar, directory, directory_ranges}
+use Rattle.lsm_format.specs.Directory.{type_size, all_equal, Values, equal_ranges, Field, image_width, image_length, bits_per_sample, compression, samples_per_pixel, sample_format, Directory, reduced, planar, directory, directory_ranges}
 
 -- ---- the header
 
@@ -32,6 +32,10 @@ tiff_header f =
 
 -- ---- what a directory is held to
 
+-- "SamplesPerPixel 0 counts as 1 channel"
+abbrev pub channels : Directory → ℕ
+channels p = max 1 (p.scalars samples_per_pixel)
+
 -- The scalars of the geometry, as stored.
 abbrev pub geometry : List Field
 geometry = image_width ∷ image_length ∷ samples_per_pixel ∷ bits_per_sample ∷ sample_format ∷ compression ∷ []
@@ -50,12 +54,26 @@ agrees_with None d = accepted tt
 agrees_with (Some p) d =
     bind (need unsupported (same_geometry d p)) (λ _. need decode (eqb (length d.offsets) (length p.offsets)))
 
--- What a directory whose entries are all read is held to, a line each: "equal array lengths, agreement with the first full page". A
--- reduced page and the first full one agree with nothing.
-unfoldable pub agrees : Option Directory → Directory → Result (Unit {0})
-agrees first d =
+-- Several values of BitsPerSample: "The other values are read only when the count is SamplesPerPixel, in turn, each compared before the
+-- next; one past the file is 1". The first was read in its entry's turn.
+abbrev pub other_bits : Values → Order → List ℕ → Directory → Result (Unit {0})
+other_bits v o f d =
+    bind (need uneven_bits (eqb v.count (channels d))) (λ _.
+    all_equal (v.count - 1) (d.scalars bits_per_sample) v.type o f (v.place + type_size v.type))
+
+-- Document 02, request 3: "the count must be 1 or SamplesPerPixel (0 taken as 1), and all values equal. A missing tag is not checked."
+abbrev pub even_bits : Option Values → Order → List ℕ → Directory → Result (Unit {0})
+even_bits None o f d = accepted tt
+even_bits (Some v) o f d = cond (eqb v.count 1) (accepted tt) (other_bits v o f d)
+
+-- What a directory whose entries are all read is held to, a line each: "equal array lengths, agreement with the first full page"; request 3:
+-- "8 [..] after a directory's two strip arrays are found equal in length and before it is held against the first page". A reduced page is
+-- held to the first line alone, and the first full one agrees with nothing.
+unfoldable pub agrees : Order → List ℕ → Option Directory → Directory → Result (Unit {0})
+agrees o f first d =
     bind (need decode (eqb (length d.offsets) (length d.counts))) (λ _.
-    agrees_with (cond (reduced d) None first) d)
+    bind (even_bits (cond (reduced d) None d.bits) o f d) (λ _.
+    agrees_with (cond (reduced d) None first) d))
 
 -- ---- the chain of directories
 
@@ -100,8 +118,8 @@ joined w d =
     }
 
 -- A directory that agrees joins the walk.
-unfoldable pub join : Walk → Directory → Result Walk
-join w d = bind (agrees w.first d) (λ _. accepted (joined w d))
+unfoldable pub join : Order → List ℕ → Walk → Directory → Result Walk
+join o f w d = bind (agrees o f w.first d) (λ _. accepted (joined w d))
 
 -- The chain from a place on, with at most n directories more. "The 1,000,001st visited directory is Parse; exactly 1,000,000
 -- pass."
@@ -110,7 +128,7 @@ chain zero true o f place w = accepted w
 chain zero false o f place w = refused parse
 chain (suc n) true o f place w = accepted w
 chain (suc n) false o f place w =
-    bind (directory o f place) (λ d. bind (join w d.0) (λ v. chain n (eqb d.1 0) o f d.1 v))
+    bind (directory o f place) (λ d. bind (join o f w d.0) (λ v. chain n (eqb d.1 0) o f d.1 v))
 
 unfoldable pub walk : Order → List ℕ → Result Walk
 walk o f = bind (u32_at o f 4) (λ place. chain 1000000 (eqb place 0) o f place start)
@@ -135,10 +153,6 @@ sample_kind format bits =
     (cond (eqb format 1 && eqb bits 16) (accepted u16)
     (cond (eqb format 2 && eqb bits 16) (accepted i16)
     (cond (eqb format 3 && eqb bits 32) (accepted f32) (refused unsupported))))
-
--- "SamplesPerPixel 0 counts as 1 channel"
-abbrev pub channels : Directory → ℕ
-channels p = max 1 (p.scalars samples_per_pixel)
 
 -- TIFF 6.0, "PlanarConfiguration": 1 is "Chunky format. The component values for each pixel are stored contiguously", 2 is "Planar format. The
 -- components are stored in separate "component planes"", and "If SamplesPerPixel is 1, PlanarConfiguration is irrelevant". Document 02,
@@ -246,13 +260,27 @@ open_memory f lent = table_by (read f) lent
 
 -- ---- what is read
 
+-- "All values read join the list of read bytes": those of a full page's BitsPerSample after the first, which its entry lists.
+abbrev pub other_ranges : Values → Order → List ℕ → Directory → Ranges
+other_ranges v o f d =
+    over (need uneven_bits (eqb v.count (channels d))) (λ _.
+    equal_ranges (v.count - 1) (d.scalars bits_per_sample) v.type o f (v.place + type_size v.type))
+
+abbrev pub bits_ranges : Option Values → Order → List ℕ → Directory → Ranges
+bits_ranges None o f d = nothing
+bits_ranges (Some v) o f d = cond (eqb v.count 1) nothing (other_ranges v o f d)
+
+abbrev pub agrees_ranges : Order → List ℕ → Directory → Ranges
+agrees_ranges o f d =
+    over (need decode (eqb (length d.offsets) (length d.counts))) (λ _. bits_ranges (cond (reduced d) None d.bits) o f d)
+
 unfoldable pub chain_ranges : ℕ → Bool → Order → List ℕ → ℕ → Walk → Ranges
 chain_ranges zero true o f place w = nothing
 chain_ranges zero false o f place w = nothing
 chain_ranges (suc n) true o f place w = nothing
 chain_ranges (suc n) false o f place w =
     both (directory_ranges o f place)
-    (over (directory o f place) (λ d. over (join w d.0) (λ v. chain_ranges n (eqb d.1 0) o f d.1 v)))
+    (over (directory o f place) (λ d. both (agrees_ranges o f d.0) (over (join o f w d.0) (λ v. chain_ranges n (eqb d.1 0) o f d.1 v))))
 
 abbrev pub cz_entry_ranges : Order → List ℕ → Option (ℕ × ℕ) → Ranges
 cz_entry_ranges o f None = nothing

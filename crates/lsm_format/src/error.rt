@@ -1,4 +1,4 @@
-// Document 01's refusals.
+// The papers' refusals: document 01's, and what document 02 adds.
 ghost use Rattle.std.specs.Prelude.{◌≡◌, ◌≤◌, length};
 ghost use Rattle.lsm_format.specs.Code.{row_of};
 
@@ -33,6 +33,8 @@ pub enum Refusal {
     TooShort {
         needed: usize,
     },
+    // Channels of one page with different bits, or bits for another number of channels.
+    UnevenBits,
 }
 
 // The row of these numbers. The longest has five, so there is room for all of them.
@@ -46,7 +48,7 @@ fn row(numbers: &[usize]) -> ArrayVec<usize, 5>
 }
 
 impl Refusal {
-    // A refusal's number and values in document 01's order.
+    // A refusal's number and values in the papers' order.
     pub fn numbers(self) -> ArrayVec<usize, 5>
         ensures { result.items ≡ row_of self }
     {
@@ -58,6 +60,7 @@ impl Refusal {
             Refusal::SceneOutOfRange { scene, count } => row(&[5, scene, count]),
             Refusal::OutOfRange { scene, t, c, z } => row(&[6, scene, t, c, z]),
             Refusal::TooShort { needed } => row(&[7, needed]),
+            Refusal::UnevenBits => row(&[8]),
         }
     }
 }

@@ -12,7 +12,7 @@ use borrow.Author.Tests.{leb-true, leb-false}
 use Rattle.lsm_format.specs.Answer.{Result, accepted, refused, bind, given, decode}
 use Rattle.lsm_format.specs.Ranges.{over, in_file, On, Agree}
 use Rattle.lsm_format.specs.Numbers.{Order, u16_at, u32_at}
-use Rattle.lsm_format.specs.Directory.{type_size, integer_size, value_at, values_at, value_ranges, place_by, value_place, entry_values, scalar_values, scalar, scalar_ranges, array_values, array, array_ranges, Directory, plain, Tag, field, strip_offsets, strip_byte_counts, cz_lsm_info, other, tag_of, entry_by, entry_by_ranges, entry, entry_ranges, entries, entries_ranges, ends, directory, directory_ranges}
+use Rattle.lsm_format.specs.Directory.{type_size, integer_size, value_at, values_at, all_equal, value_ranges, equal_ranges, place_by, value_place, entry_values, scalar_values, scalar, scalar_ranges, array_values, array, array_ranges, Directory, plain, Tag, field, sample_bits, strip_offsets, strip_byte_counts, cz_lsm_info, other, tag_of, entry_by, entry_by_ranges, entry, entry_ranges, entries, entries_ranges, ends, directory, directory_ranges}
 use Rattle.lsm_format.proofs.Numbers.{number_inside}
 use Rattle.lsm_format.proofs.Directory.{integer_size_lem, values_past}
 use Rattle.lsm_overwrite.proofs.TwoFiles.{bind_law, bind_told, over_law, on_part, in_file_at, number_law, number_listed, number_last}
@@ -54,6 +54,11 @@ module _ (f g : List ℕ) (len : length g ≡ length f) where
   unfolding entry_values
   entry_values_law o type count s n p h i =
       bind_law _ refl (λ _. bind_law _ (value_place_law o (type_size type) count s n p h i) (λ q. refl))
+
+  scalar_values_law : (o : Order) (type count s n p : ℕ) → On f g s n → (s ≤ p) × (p + 4 ≤ s + n) →
+      scalar_values o g type count p ≡ scalar_values o f type count p
+  unfolding scalar_values
+  scalar_values_law o type count s n p h i = bind_law _ (entry_values_law o type count s n p h i) (λ v. refl)
 
   value_on : (type size : ℕ) (o : Order) (p n : ℕ) → integer_size type ≡ Some size → On f g p n → (p ≤ p) × (p + size ≤ p + n) →
       value_at type o g p ≡ value_at type o f p
@@ -102,11 +107,18 @@ module _ (f g : List ℕ) (len : length g ≡ length f) where
   value_law type o p a =
       over_law f g _ _ refl a (λ size b. number_listed f g len size o p (rw mul-one at b))
 
+  -- values that are held against one, each before the next
+  pub equal_law : (k v type : ℕ) (o : Order) (p : ℕ) → Agree f g (equal_ranges k v type o f p) → all_equal k v type o g p ≡ all_equal k v type o f p
+  unfolding all_equal equal_ranges
+  equal_law zero v type o p a = refl
+  equal_law (suc k) v type o p a =
+      over_law f g _ _ (value_law type o p a.0) a.1 (λ w b. over_law f g _ _ refl b (λ _ c. equal_law k v type o (p + type_size type) c))
+
   scalar_law : (o : Order) (type count s n p : ℕ) → On f g s n → (s ≤ p) × (p + 4 ≤ s + n) → Agree f g (scalar_ranges o f type count p) →
       scalar o g type count p ≡ scalar o f type count p
-  unfolding scalar scalar_values
+  unfolding scalar
   scalar_law o type count s n p h i a =
-      over_law f g _ _ (bind_law _ (entry_values_law o type count s n p h i) (λ v. refl)) a (λ v b. value_law v.type o v.place b)
+      over_law f g _ _ (scalar_values_law o type count s n p h i) a (λ v b. value_law v.type o v.place b)
 
   array_law : (o : Order) (type count s n p : ℕ) → On f g s n → (s ≤ p) × (p + 4 ≤ s + n) → Agree f g (array_ranges o f type count p) →
       array o g type count p ≡ array o f type count p
@@ -118,6 +130,8 @@ module _ (f g : List ℕ) (len : length g ≡ length f) where
   entry_by_law : (t : Tag) (o : Order) (type count s n p : ℕ) (d : Directory) → On f g s n → (s ≤ p) × (p + 4 ≤ s + n) →
       Agree f g (entry_by_ranges t o f type count p) → entry_by t o g type count p d ≡ entry_by t o f type count p d
   entry_by_law (field t) o type count s n p d h i a = bind_law _ (scalar_law o type count s n p h i a) (λ v. refl)
+  entry_by_law sample_bits o type count s n p d h i a =
+      over_law f g _ _ (scalar_values_law o type count s n p h i) a (λ v b. bind_law _ (value_law v.type o v.place b) (λ n. refl))
   entry_by_law strip_offsets o type count s n p d h i a = bind_law _ (array_law o type count s n p h i a) (λ v. refl)
   entry_by_law strip_byte_counts o type count s n p d h i a = bind_law _ (array_law o type count s n p h i a) (λ v. refl)
   entry_by_law cz_lsm_info o type count s n p d h i a = bind_law _ refl (λ _. bind_law _ (number_law f g len 4 o s n p h i) (λ v. refl))

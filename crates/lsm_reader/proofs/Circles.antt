@@ -1,5 +1,5 @@
--- A chain that comes back to a place never ends: the place decides all that follows, and every directory on the way has agreed with the
--- first full page already. Assumes nothing.
+-- A chain that comes back to a place never ends: the place decides all that follows, and every directory on the way has even bits and has
+-- agreed with the first full page already. Assumes nothing.
 use Prim.Native.Nat.{ℕ, zero, suc, ◌+◌, ◌≤◌}
 use native.Mathlib.Omega.{arith}
 use mathlib.Core.Bool.{Bool, true, false, cond}
@@ -9,10 +9,10 @@ use mathlib.Core.Path.{◌≡◌, refl, ◌∙◌}
 use mathlib.Core.List.{List}
 use lib.Dec.{eqb}
 use lib.ListN.{length}
-use Rattle.lsm_format.specs.Answer.{accepted, refused, bind, need, parse, decode}
+use Rattle.lsm_format.specs.Answer.{Result, accepted, refused, bind, need, parse, decode}
 use Rattle.lsm_format.specs.Numbers.{Order}
 use Rattle.lsm_format.specs.Directory.{Directory, reduced}
-use Rattle.lsm_format.specs.Open.{agrees_with, agrees, Walk, earlier, full_page, joined, chain}
+use Rattle.lsm_format.specs.Open.{agrees_with, even_bits, agrees, Walk, earlier, full_page, joined, chain}
 use Rattle.lsm_format.proofs.Accepting.{not_both}
 use Rattle.lsm_format.proofs.Open.{agrees_self, stays, chain_full}
 
@@ -38,15 +38,16 @@ again_by true first g d a k = (refl, stays g)
 again_by false None g d a k = (rw k (agrees_self d), rw k)
 again_by false (Some p) g d a k = (rw k a, rw k)
 
-agrees_again : (first g : Option Directory) (d : Directory) → agrees first d ≡ accepted tt → Keeps (earlier first (full_page d)) g →
-    (agrees g d ≡ accepted tt) × (earlier g (full_page d) ≡ g)
+agrees_again : (o : Order) (f : List ℕ) (first g : Option Directory) (d : Directory) → agrees o f first d ≡ accepted tt →
+    Keeps (earlier first (full_page d)) g → (agrees o f g d ≡ accepted tt) × (earlier g (full_page d) ≡ g)
 unfolding agrees bind
-agrees_again first g d a k = by (eqb (length d.offsets) (length d.counts)) a
+agrees_again o f first g d a k = by (eqb (length d.offsets) (length d.counts)) (even_bits (cond (reduced d) None d.bits) o f d) a
   where
-    by : (b : Bool) → bind (need decode b) (λ _. agrees_with (cond (reduced d) None first) d) ≡ accepted tt →
-        (bind (need decode b) (λ _. agrees_with (cond (reduced d) None g) d) ≡ accepted tt) × (earlier g (full_page d) ≡ g)
-    by true q = again_by (reduced d) first g d q k
-    by false q = absurd (not_both decode tt q)
+    by : (b : Bool) (r : Result (Unit {0})) → bind (need decode b) (λ _. bind r (λ _. agrees_with (cond (reduced d) None first) d)) ≡ accepted tt →
+        (bind (need decode b) (λ _. bind r (λ _. agrees_with (cond (reduced d) None g) d)) ≡ accepted tt) × (earlier g (full_page d) ≡ g)
+    by true (accepted u) q = again_by (reduced d) first g d q k
+    by true (refused row) q = absurd (not_both row tt q)
+    by false r q = absurd (not_both decode tt q)
 
 -- ---- from a mark to a place
 
@@ -78,14 +79,14 @@ module _ (o : Order) (f : List ℕ) where
 
   -- one directory further
   module _ (first : Option Directory) (mark place next : ℕ) (d : Directory) (z : place ≡ 0 → ⊥)
-      (turn : (k : ℕ) (u : Walk) → agrees u.first d ≡ accepted tt → chain (suc k) (eqb place 0) o f place u ≡ chain k (eqb next 0) o f next (joined u d))
-      (a : agrees first d ≡ accepted tt) where
+      (turn : (k : ℕ) (u : Walk) → agrees o f u.first d ≡ accepted tt → chain (suc k) (eqb place 0) o f place u ≡ chain k (eqb next 0) o f next (joined u d))
+      (a : agrees o f first d ≡ accepted tt) where
     step : (n : ℕ) (w : Walk) → Keeps (earlier first (full_page d)) w.first → (m : ℕ) (v : Walk) → m ≤ n → v.first ≡ w.first →
         chain n (eqb mark 0) o f mark w ≡ chain m (eqb place 0) o f place v →
         (chain n (eqb mark 0) o f mark w ≡ refused parse) ⊎ Further o f mark next 1 n w
     step n w k zero v h e s = inl (s ∙ chain_full o f place v z)
     step n w k (suc m) v h e s =
-        let j = agrees_again first v.first d a (rw e k) in
+        let j = agrees_again o f first v.first d a (rw e k) in
         inr (record { left = m; later = joined v d; fewer = omega arith; kept = j.1 ∙ e; same = s ∙ turn m v j.0 })
 
     pub again_turn : Again o f 0 first mark place → Again o f 1 (earlier first (full_page d)) mark next

@@ -51,14 +51,14 @@ then_next next d = accepted (d, next)
 pub chain_visits : (n : ℕ) (o : Order) (f : List ℕ) (place : ℕ) (w : Open.Walk) → n ≡ 1000000 - w.visited → (place ≡ 0 → ⊥) → chain n (eqb place 0) o f place w
     ≡ bind (visit_ends o f place w.visited) (λ e.
     bind (entries e.0 o f (place + 2) 0 plain) (λ d.
-    bind (agrees w.first d) (λ _. chain (1000000 - (w.visited + 1)) (eqb e.1 0) o f e.1 (joined w d))))
+    bind (agrees o f w.first d) (λ _. chain (1000000 - (w.visited + 1)) (eqb e.1 0) o f e.1 (joined w d))))
 unfolding chain directory join visit_ends bind
 chain_visits n o f place w e z = by (ltb w.visited 1000000) refl
   where
     by : (b : Bool) → ltb w.visited 1000000 ≡ b → chain n (eqb place 0) o f place w
         ≡ bind (bind (need parse b) (λ _. ends o f place)) (λ e.
         bind (entries e.0 o f (place + 2) 0 plain) (λ d.
-        bind (agrees w.first d) (λ _. chain (1000000 - (w.visited + 1)) (eqb e.1 0) o f e.1 (joined w d))))
+        bind (agrees o f w.first d) (λ _. chain (1000000 - (w.visited + 1)) (eqb e.1 0) o f e.1 (joined w d))))
     by false l =
         let full : n ≡ 0 = omega (arith, ltb-false _ _ l) in
         rw (full, ne_eqb place 0 z)
@@ -70,16 +70,16 @@ chain_visits n o f place w e z = by (ltb w.visited 1000000) refl
         k = 1000000 - (w.visited + 1)
 
         regroup : (r : Result (ℕ × ℕ)) →
-            bind (bind r (λ e. bind (entries e.0 o f (place + 2) 0 plain) (then_next e.1))) (λ d. bind (bind (agrees w.first d.0) (λ _. accepted (joined w d.0))) (λ v. chain k (eqb d.1 0) o f d.1 v))
-            ≡ bind r (λ e. bind (entries e.0 o f (place + 2) 0 plain) (λ d. bind (agrees w.first d) (λ _. chain k (eqb e.1 0) o f e.1 (joined w d))))
+            bind (bind r (λ e. bind (entries e.0 o f (place + 2) 0 plain) (then_next e.1))) (λ d. bind (bind (agrees o f w.first d.0) (λ _. accepted (joined w d.0))) (λ v. chain k (eqb d.1 0) o f d.1 v))
+            ≡ bind r (λ e. bind (entries e.0 o f (place + 2) 0 plain) (λ d. bind (agrees o f w.first d) (λ _. chain k (eqb e.1 0) o f e.1 (joined w d))))
         regroup (refused row) = refl
         regroup (accepted e) = entry (entries e.0 o f (place + 2) 0 plain)
           where
             entry : (r : Result Rule.Directory) →
-                bind (bind r (then_next e.1)) (λ d. bind (bind (agrees w.first d.0) (λ _. accepted (joined w d.0))) (λ v. chain k (eqb d.1 0) o f d.1 v))
-                ≡ bind r (λ d. bind (agrees w.first d) (λ _. chain k (eqb e.1 0) o f e.1 (joined w d)))
+                bind (bind r (then_next e.1)) (λ d. bind (bind (agrees o f w.first d.0) (λ _. accepted (joined w d.0))) (λ v. chain k (eqb d.1 0) o f d.1 v))
+                ≡ bind r (λ d. bind (agrees o f w.first d) (λ _. chain k (eqb e.1 0) o f e.1 (joined w d)))
             entry (refused row) = refl
-            entry (accepted d) = held (agrees w.first d)
+            entry (accepted d) = held (agrees o f w.first d)
               where
                 held : (r : Result (Unit {0})) → bind (bind r (λ _. accepted (joined w d))) (λ v. chain k (eqb e.1 0) o f e.1 v) ≡ bind r (λ _. chain k (eqb e.1 0) o f e.1 (joined w d))
                 held (refused row) = refl
@@ -96,7 +96,7 @@ module _ (o : Order) (f lent : List ℕ) (place mark : ℕ) (w : Walk) (used : �
   -- a directory whose entries are all read and which agrees, and the walk that it joins
   module _ (z : place ≡ 0 → ⊥) (n next : ℕ) (e : accepted (n, next) ≡ visit_ends o f place w.visited) (i : ℕ) (d : Directory)
       (b : entries (n - i) o f (place + 2) i (directory_of o f d) ≡ entries n o f (place + 2) 0 plain) (l : n ≤ i)
-      (a : accepted tt ≡ agrees (option_map (directory_of o f) w.first) (directory_of o f d)) (v : Walk) (j : (ps : List Page) → walk_of o f (ps ++ pages_of (directory_of o f d)) v ≡ joined (walk_of o f ps w) (directory_of o f d)) where
+      (a : accepted tt ≡ agrees o f (option_map (directory_of o f) w.first) (directory_of o f d)) (v : Walk) (j : (ps : List Page) → walk_of o f (ps ++ pages_of (directory_of o f d)) v ≡ joined (walk_of o f ps w) (directory_of o f d)) where
     read : entries n o f (place + 2) 0 plain ≡ accepted (directory_of o f d)
     read = sym b ∙ entries_over n o f (place + 2) i (directory_of o f d) l
 
@@ -145,5 +145,5 @@ mark_moved r m visited place e = rw e (by (ltb visited m.until))
     by false = inr refl
 
 -- a directory that agrees has equally many offsets and lengths
-pub equal_counts : (o : Order) (f : List ℕ) (first : Option Rule.Directory) (d : Directory) → agrees first (directory_of o f d) ≡ accepted tt → d.offsets.count ≡ d.counts.count
-equal_counts o f first d a = rw (values_length, values_length) at (agreed_arrays first (directory_of o f d) a)
+pub equal_counts : (o : Order) (f : List ℕ) (first : Option Rule.Directory) (d : Directory) → agrees o f first (directory_of o f d) ≡ accepted tt → d.offsets.count ≡ d.counts.count
+equal_counts o f first d a = rw (values_length, values_length) at (agreed_arrays o f first (directory_of o f d) a)

@@ -16,7 +16,7 @@ use Rattle.lsm_directory.specs.Code.{directory_of}
 use Rattle.lsm_directory.specs.declared.Directory.{Directory}
 use Rattle.lsm_format.proofs.Lists.{take_store, take_full}
 use Rattle.lsm_format.proofs.Open.{strip_words_length, strip_offset, strip_count}
-use Rattle.lsm_values.specs.declared.StripArray.{StripArray}
+use Rattle.lsm_values.specs.declared.Array.{Array}
 use Rattle.lsm_values.specs.Code.{values_of}
 use Rattle.lsm_reader.specs.Walked.{LaidPage}
 use Rattle.lsm_values.proofs.Laws.{values_length}
@@ -42,7 +42,7 @@ take_strip l os cs i v c e n h vs cs' q =
     (take_store (set l (2 * i) (get_or (strip_words os cs) (2 * i) 0)) (strip_words os cs) (2 * i + 1) (omega arith) (rw length-set (omega arith))
     (take_store l (strip_words os cs) (2 * i) (omega arith) (omega arith) q))
 
-module _ (o : Order) (f : List ℕ) (offsets counts : StripArray) (e : counts.count ≡ offsets.count) where
+module _ (o : Order) (f : List ℕ) (offsets counts : Array) (e : counts.count ≡ offsets.count) where
   equal : length (values_of o f offsets) ≡ length (values_of o f counts)
   equal = rw (values_length, values_length) (sym e)
 

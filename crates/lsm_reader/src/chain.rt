@@ -12,7 +12,7 @@ use lsm_bytes::read_u32;
 use lsm_directory::{Directory, Ends, agrees, directory_ends, is_reduced, put_value, read_entry};
 use lsm_format::error::Refusal;
 use lsm_format::types::{CzTag, Endian};
-use lsm_values::{StripArray, strip_value};
+use lsm_values::{Array, strip_value};
 
 // What the directories visited so far tell.
 #[derive(Clone, Copy)]
@@ -102,7 +102,7 @@ fn move_mark(m: Mark, visited: usize, place: usize) -> Mark
 // The words of a page's strips: strip by strip, offset then count. They are stored by their places: std says nothing of what a slice that was
 // cut into chunks (`as_chunks_mut`) ends as.
 #[tactic(auto, using(crate::proofs::Walks::strip_more, crate::proofs::Walks::strips_all))]
-fn fill_strips(buf: &[u8], offsets: StripArray, counts: StripArray, e: Endian, out: &mut [usize])
+fn fill_strips(buf: &[u8], offsets: Array, counts: Array, e: Endian, out: &mut [usize])
     requires { (length out.old ≡ 2 * offsets.count) × (counts.count ≡ offsets.count) }
     ensures { out.new ≡ strip_words (values_of (order_of e) buf.now offsets) (values_of (order_of e) buf.now counts) }
 {
@@ -153,7 +153,7 @@ pub(crate) fn walk_chain(buf: &[u8], e: Endian, table: &mut [usize]) -> Result<W
                 Err(r) => break 'dirs Err(r),
             }
         }
-        agrees(w.first, d)?;
+        agrees(buf, w.first, d, e)?;
         w = join(w, d);
         used = lay_page(buf, d, e, used, table);
         if ends.next == mark.place {

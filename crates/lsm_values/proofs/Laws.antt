@@ -1,19 +1,20 @@
 -- Laws of scalars and of strip arrays, in the order in which the code asks; and of a strip array's values. Assumes nothing.
-use Prim.Native.Nat.{ℕ, zero, suc, ◌+◌, ◌*◌, ◌≤◌, ◌<◌}
+use Prim.Native.Nat.{ℕ, zero, suc, ◌+◌, ◌-◌, ◌*◌, ◌≤◌, ◌<◌}
 use native.Mathlib.Nat.{add-zero, mul-zero, mul-suc}
 use native.Mathlib.Omega.{arith}
 use mathlib.Core.Bool.{Bool, true, false, not, cond}
 use Rattle.std.specs.Prelude.{Option, None, Some, get_or, slice_get}
+use Rattle.std.proofs.Common.{add-one}
 use Rattle.std.proofs.lemmas.Option.{slice_get_past, unwrap_or-slice_get}
 use Rattle.std.proofs.lemmas.Bool.Decides.{nat_tests}
 use mathlib.Core.Path.{◌≡◌, refl, sym, ◌∙◌}
 use mathlib.Core.List.{List, []}
 use lib.Dec.{leb, eqb}
 use lib.ListN.{length}
-use borrow.Author.Tests.{ne_eqb, eqb-true, eqb-false, leb-true, leb-false}
-use Rattle.lsm_format.specs.Answer.{Result, accepted, refused, bind, need, parse, decode}
+use borrow.Author.Tests.{eq-eqb, ne_eqb, eqb-true, eqb-false, leb-true, leb-false}
+use Rattle.lsm_format.specs.Answer.{Result, accepted, refused, bind, need, parse, decode, uneven_bits}
 use Rattle.lsm_format.specs.Numbers.{Order, number_at}
-use Rattle.lsm_format.specs.Directory.{type_size, integer_size, value_at, values_at, value_place, scalar, entry_values, array_values, array}
+use Rattle.lsm_format.specs.Directory.{type_size, integer_size, value_at, values_at, all_equal, Values, value_place, scalar, entry_values, array_values, array}
 use Rattle.lsm_format.proofs.Directory.{values_next, values_past, scalar_no_number, scalar_nowhere, scalar_no_count, scalar_is, integer_size_lem}
 use Rattle.lsm_format.proofs.Numbers.{number_there}
 use Rattle.lsm_values.specs.Values.{or_nought, values, array_at}
@@ -66,19 +67,21 @@ values_there (suc n) type size o f p i h =
     let there = number_there size o f p (omega (arith, mul-suc size n)) in
     values_next n type size o f p i _ there ∙ rw (there, values_there n type size o f (p + size) i (omega (arith, mul-suc size n)))
 
--- A strip array: its type has a size, then the place of its values is known.
+-- A strip array: its values, and then what is asked of them.
 module _ (o : Order) (f : List ℕ) (type count place : ℕ) where
-  pub array_asked : array o f type count place
-      ≡ bind (need decode (not (eqb (type_size type) 0))) (λ _. bind (value_place o f (type_size type) count place) (λ p. array_at o f type count p))
-  unfolding array array_values entry_values array_at bind
-  array_asked = by (eqb (type_size type) 0) (value_place o f (type_size type) count place) (leb count 100000) refl refl refl
+  pub array_asked : array o f type count place ≡ bind (entry_values o f type count place) (λ v. array_at o f v.type v.count v.place)
+  unfolding array array_values array_at bind
+  array_asked = by (entry_values o f type count place)
     where
-      by : (b : Bool) (r : Result ℕ) (l : Bool) → eqb (type_size type) 0 ≡ b → value_place o f (type_size type) count place ≡ r → leb count 100000 ≡ l →
-          array o f type count place ≡ bind (need decode (not b)) (λ _. bind r (λ p. bind (need decode l) (λ _. values_at count type o f p)))
-      by true r l t e m = rw t
-      by false (refused row) l t e m = rw (t, e)
-      by false (accepted p) false t e m = rw (t, e, m)
-      by false (accepted p) true t e m = rw (t, e, m)
+      counted : (b : Bool) (v : Values) →
+          bind (bind (need decode b) (λ _. accepted v)) (λ x. values_at x.count x.type o f x.place) ≡ bind (need decode b) (λ _. values_at v.count v.type o f v.place)
+      counted true v = refl
+      counted false v = refl
+
+      by : (r : Result Values) → bind (bind r (λ v. bind (need decode (leb v.count 100000)) (λ _. accepted v))) (λ v. values_at v.count v.type o f v.place)
+          ≡ bind r (λ v. bind (need decode (leb v.count 100000)) (λ _. values_at v.count v.type o f v.place))
+      by (accepted v) = counted (leb v.count 100000) v
+      by (refused row) = refl
 
 -- The values at a known place, by how their type is read as a number: where the last of them is in the file, all are.
 abbrev pub array_by : Option ℕ → Order → List ℕ → ℕ → ℕ → Result (List ℕ)
@@ -100,6 +103,45 @@ module _ (o : Order) (f : List ℕ) (type p : ℕ) where
       ≡ bind (need decode (leb count 100000)) (λ _. cond (eqb count 0) (accepted []) (array_by (integer_size type) o f count p))
   unfolding array_at
   array_counted count = rw (← asked count (integer_size type) refl) refl
+
+-- ---- values that are held against one
+
+-- no more
+pub equal_over : (n i v type : ℕ) (o : Order) (f : List ℕ) (p : ℕ) → n ≤ i → all_equal (n - i) v type o f p ≡ accepted tt
+unfolding all_equal
+equal_over n i v type o f p h = let none : n - i ≡ 0 = omega arith in rw none
+
+module _ (n v type : ℕ) (o : Order) (f : List ℕ) (p i : ℕ) (h : i < n) where
+  one_more : n - i ≡ suc (n - (i + 1))
+  one_more = omega arith
+
+  -- a type that is no number
+  pub equal_no_number : integer_size type ≡ None → all_equal (n - i) v type o f p ≡ refused decode
+  unfolding all_equal value_at bind
+  equal_no_number s = rw (one_more, s)
+
+  -- the i-th of n, and then the others
+  module _ (size : ℕ) (s : integer_size type ≡ Some size) where
+    equal_more : all_equal (n - i) v type o f (p + size * i)
+        ≡ bind (number_at size o f (p + size * i)) (λ w.
+        bind (need uneven_bits (eqb w v)) (λ _. all_equal (n - (i + 1)) v type o f (p + size * (i + 1))))
+    unfolding all_equal value_at bind
+    equal_more =
+        let next : p + size * i + size ≡ p + size * (i + 1) = omega (arith, mul-suc size i, add-one i) in
+        rw (one_more, s, integer_size_lem type size s, next)
+
+    pub equal_stops : (row : List ℕ) → number_at size o f (p + size * i) ≡ refused row → all_equal (n - i) v type o f (p + size * i) ≡ refused row
+    unfolding bind
+    equal_stops row e = rw (equal_more, e)
+
+    module _ (w : ℕ) (e : number_at size o f (p + size * i) ≡ accepted w) where
+      pub equal_uneven : (w ≡ v → ⊥) → all_equal (n - i) v type o f (p + size * i) ≡ refused uneven_bits
+      unfolding bind
+      equal_uneven h = rw (equal_more, e, ne_eqb w v h)
+
+      pub equal_pass : w ≡ v → all_equal (n - i) v type o f (p + size * i) ≡ all_equal (n - (i + 1)) v type o f (p + size * (i + 1))
+      unfolding bind
+      equal_pass h = rw (equal_more, e, eq-eqb w v h)
 
 -- an array has as many values as it counts
 pub values_length : (n size : ℕ) (o : Order) (f : List ℕ) (p : ℕ) → length (values n size o f p) ≡ n

@@ -1,13 +1,13 @@
 // The values of a directory's entries: their types, where they stand, single numbers and strip arrays.
 #![tactic(auto)]
 
-ghost use Rattle.std.specs.Prelude.{◌≡◌, ◌+◌, ◌*◌, ◌≤◌, ◌<◌, get_or, slice_get, None, Some, option_map};
+ghost use Rattle.std.specs.Prelude.{ℕ, ◌≡◌, ◌+◌, ◌-◌, ◌*◌, ◌≤◌, ◌<◌, get_or, slice_get, None, Some, option_map};
 ghost use Rattle.lsm_format.specs.Code.{order_of, answer_of, answer_by};
 ghost use Rattle.lsm_format.specs.Numbers.{Order, number_at};
 ghost use Rattle.lsm_format.specs.Words.{word};
-ghost use Rattle.lsm_format.specs.Directory.{type_size, integer_size, value_place, scalar, array};
+ghost use Rattle.lsm_format.specs.Directory.{type_size, integer_size, value_at, all_equal, value_place, entry_values, scalar_values, scalar, array};
 ghost use Rattle.lsm_values.specs.Values.{array_at};
-ghost use Rattle.lsm_values.specs.Code.{bytes_of, values_of};
+ghost use Rattle.lsm_values.specs.Code.{bytes_of, entry_of, values_of};
 
 use lsm_bytes::{read_u8, read_u16, read_u32};
 use lsm_format::checked::{checked_add, checked_mul};
@@ -96,6 +96,42 @@ fn value_place(buf: &[u8], size: usize, entry: Entry, e: Endian) -> Result<usize
     Ok(place as usize)
 }
 
+// The values of an entry: where the first stands, their type, and how many they are.
+#[derive(Clone, Copy)]
+pub struct Values {
+    pub place: usize,
+    pub count: usize,
+    pub ty: u16,
+}
+
+// The values of an entry whose type has a size.
+#[tactic(auto, unfolding(lsm_format::specs::Directory::entry_values, lsm_format::specs::Answer::bind), using(lsm_format::proofs::Directory::type_size_small))]
+fn entry_values(buf: &[u8], entry: Entry, e: Endian) -> Result<Values, Refusal>
+    ensures { answer_by entry_of result ≡ entry_values (order_of e) buf.now entry.ty entry.count entry.off }
+{
+    let size = tiff_type_size(entry.ty);
+    if size == 0 {
+        return Err(Refusal::Decode);
+    }
+    Ok(Values {
+        place: value_place(buf, size, entry, e)?,
+        count: entry.count as usize,
+        ty: entry.ty,
+    })
+}
+
+// The values of an entry that has one at least.
+#[tactic(auto, unfolding(lsm_format::specs::Directory::scalar_values, lsm_format::specs::Answer::bind))]
+pub fn scalar_values(buf: &[u8], entry: Entry, e: Endian) -> Result<Values, Refusal>
+    ensures { answer_by entry_of result ≡ scalar_values (order_of e) buf.now entry.ty entry.count entry.off }
+{
+    let values = entry_values(buf, entry, e)?;
+    if values.count == 0 {
+        return Err(Refusal::Decode);
+    }
+    Ok(values)
+}
+
 // The first value of an entry whose type is read as a number of this width.
 #[tactic(auto, unfolding(lsm_format::specs::Answer::bind), using(crate::proofs::Laws::scalar_asked))]
 fn first_number(buf: &[u8], width: Width, entry: Entry, e: Endian) -> Result<u32, Refusal>
@@ -127,17 +163,26 @@ pub fn read_scalar(buf: &[u8], entry: Entry, e: Endian) -> Result<u32, Refusal>
     }
 }
 
-// A strip array in the file: `count` numbers from a place on.
+// One value of a type at a place.
+#[tactic(auto, unfolding(lsm_format::specs::Directory::value_at, lsm_format::specs::Answer::bind))]
+pub fn value_at(buf: &[u8], ty: u16, off: usize, e: Endian) -> Result<u32, Refusal>
+    ensures { answer_of result ≡ value_at ty (order_of e) buf.now off }
+{
+    let width = integer_width(ty).ok_or(Refusal::Decode)?;
+    read_number(buf, off, width, e)
+}
+
+// An array in the file: `count` numbers from a place on.
 #[derive(Clone, Copy)]
-pub struct StripArray {
+pub struct Array {
     pub place: usize,
     pub count: usize,
     pub width: Width,
 }
 
-impl StripArray {
+impl Array {
     // The array that has no values.
-    pub const EMPTY: StripArray = StripArray {
+    pub const EMPTY: Array = Array {
         place: 0,
         count: 0,
         width: Width::One,
@@ -145,71 +190,110 @@ impl StripArray {
 }
 
 // The most strips of a page.
-const MAX_STRIP_COUNT: u32 = 100_000;
+const MAX_STRIP_COUNT: usize = 100_000;
 
 // The strip array at a place. Its values are not read one by one: all of them are in the file where the last byte is.
 #[tactic(auto, unfolding(crate::specs::Values::values, lsm_format::specs::Answer::bind), using(crate::proofs::Laws::array_counted))]
-fn array_at(buf: &[u8], entry: Entry, place: usize) -> Result<StripArray, Refusal>
-    ensures { (o : Order) → answer_by (values_of o buf.now) result ≡ array_at o buf.now entry.ty entry.count place }
+fn array_at(buf: &[u8], values: Values) -> Result<Array, Refusal>
+    ensures { (o : Order) → answer_by (values_of o buf.now) result ≡ array_at o buf.now values.ty values.count values.place }
 {
-    if MAX_STRIP_COUNT < entry.count {
+    if MAX_STRIP_COUNT < values.count {
         return Err(Refusal::Decode);
     }
-    if entry.count == 0 {
-        return Ok(StripArray::EMPTY);
+    if values.count == 0 {
+        return Ok(Array::EMPTY);
     }
-    let width = integer_width(entry.ty).ok_or(Refusal::Decode)?;
-    let count = entry.count as usize;
-    let rest = buf.get(place..).ok_or(Refusal::Parse)?;
-    if rest.len() < width.bytes() * count {
+    let width = integer_width(values.ty).ok_or(Refusal::Decode)?;
+    let rest = buf.get(values.place..).ok_or(Refusal::Parse)?;
+    if rest.len() < width.bytes() * values.count {
         return Err(Refusal::Parse);
     }
-    Ok(StripArray {
-        place,
-        count,
+    Ok(Array {
+        place: values.place,
+        count: values.count,
         width,
     })
 }
 
 // The strip array of an entry.
-#[tactic(auto, unfolding(lsm_format::specs::Answer::bind), using(crate::proofs::Laws::array_asked, lsm_format::proofs::Directory::type_size_small))]
-pub fn read_array(buf: &[u8], entry: Entry, e: Endian) -> Result<StripArray, Refusal>
+#[tactic(auto, unfolding(lsm_format::specs::Answer::bind), using(crate::proofs::Laws::array_asked))]
+pub fn read_array(buf: &[u8], entry: Entry, e: Endian) -> Result<Array, Refusal>
     ensures { answer_by (values_of (order_of e) buf.now) result ≡ array (order_of e) buf.now entry.ty entry.count entry.off }
 {
-    let size = tiff_type_size(entry.ty);
-    if size == 0 {
-        return Err(Refusal::Decode);
-    }
-    let place = value_place(buf, size, entry, e)?;
-    array_at(buf, entry, place)
+    let values = entry_values(buf, entry, e)?;
+    array_at(buf, values)
 }
 
-// Where value i of a strip array stands, if the machine has such a place.
+// Where value i of an array stands, if the machine has such a place.
 #[tactic(auto, unfolding(lsm_format::specs::Words::word), using(std::proofs::lemmas::Bool::Decides::nat_tests))]
-fn value_offset(a: StripArray, i: usize) -> Option<usize>
+fn value_offset(a: Array, i: usize) -> Option<usize>
     ensures { result ≡ word (a.place + bytes_of a.width * i) }
 {
     checked_add(a.place, checked_mul(a.width.bytes(), i)?)
 }
 
-// Value i of a strip array, if it has so many. One that is not in the file is 0: an array that was read has none of that sort.
-#[tactic(auto, unfolding(crate::specs::Values::or_nought, lsm_format::specs::Words::word), using(crate::proofs::Laws::value_none, crate::proofs::Laws::value_there, lsm_format::proofs::Numbers::number_past, std::proofs::lemmas::Bool::Decides::nat_tests))]
-pub fn get_strip_value(buf: &[u8], a: StripArray, i: usize, e: Endian) -> Option<usize>
+// What stands where value i of an array would.
+#[tactic(auto, unfolding(lsm_format::specs::Words::word), using(lsm_format::proofs::Numbers::number_past, std::proofs::lemmas::Bool::Decides::nat_tests))]
+fn array_value(buf: &[u8], a: Array, i: usize, e: Endian) -> Result<u32, Refusal>
+    ensures { answer_of result ≡ number_at (bytes_of a.width) (order_of e) buf.now (a.place + bytes_of a.width * i) }
+{
+    let Some(off) = value_offset(a, i) else {
+        return Err(Refusal::Parse);
+    };
+    read_number(buf, off, a.width, e)
+}
+
+// Value i of an array, if it has so many. One that is not in the file is 0: a strip array that was read has none of that sort.
+#[tactic(auto, unfolding(crate::specs::Values::or_nought), using(crate::proofs::Laws::value_none, crate::proofs::Laws::value_there))]
+pub fn get_strip_value(buf: &[u8], a: Array, i: usize, e: Endian) -> Option<usize>
     ensures { result ≡ slice_get (values_of (order_of e) buf.now a) i }
 {
     if a.count <= i {
         return None;
     }
-    let Some(off) = value_offset(a, i) else {
-        return Some(0);
-    };
-    Some(read_number(buf, off, a.width, e).unwrap_or(0) as usize)
+    Some(array_value(buf, a, i, e).unwrap_or(0) as usize)
 }
 
 // The same; 0 where there is none.
 #[tactic(auto, using(crate::proofs::Laws::value_or))]
-pub fn strip_value(buf: &[u8], a: StripArray, i: usize, e: Endian) -> usize
+pub fn strip_value(buf: &[u8], a: Array, i: usize, e: Endian) -> usize
     ensures { result ≡ get_or (values_of (order_of e) buf.now a) i 0 }
 {
     get_strip_value(buf, a, i, e).unwrap_or(0)
+}
+
+// Holds the values of an array after the first against a number, each before the next is read.
+#[inline(always)] // so that each call below has a loop for its width
+#[tactic(auto, using(crate::proofs::Laws::equal_over))]
+fn array_equal(buf: &[u8], a: Array, v: u32, e: Endian) -> Result<(), Refusal>
+    ensures { (type : ℕ) → integer_size type ≡ Some (bytes_of a.width) → answer_of result ≡ all_equal (a.count - 1) v type (order_of e) buf.now (a.place + type_size type) }
+{
+    for i in 1..a.count {
+        if array_value(buf, a, i, e)? != v {
+            return Err(Refusal::UnevenBits);
+        }
+    }
+    Ok(())
+}
+
+// Holds the values of an entry after the first against a number.
+#[tactic(auto, using(crate::proofs::Laws::equal_over, crate::proofs::Laws::equal_no_number))]
+pub fn all_equal(buf: &[u8], values: Values, v: u32, e: Endian) -> Result<(), Refusal>
+    ensures { answer_of result ≡ all_equal (values.count - 1) v values.ty (order_of e) buf.now (values.place + type_size values.ty) }
+{
+    if values.count <= 1 {
+        return Ok(());
+    }
+    let Values { place, count, ty } = values;
+    let of = |width| Array {
+        place,
+        count,
+        width,
+    };
+    match integer_width(ty) {
+        Some(Width::One) => array_equal(buf, of(Width::One), v, e),
+        Some(Width::Two) => array_equal(buf, of(Width::Two), v, e),
+        Some(Width::Four) => array_equal(buf, of(Width::Four), v, e),
+        None => Err(Refusal::Decode),
+    }
 }

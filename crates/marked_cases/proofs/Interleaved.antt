@@ -28,7 +28,7 @@ use Rattle.marked_cases.proofs.Series.{short}
 -- ---- a file of three channels
 
 -- An entry of type 1: its tag, 256 and so much, its count, and three values.
-abbrev in_bytes : ℕ → ℕ → ℕ → ℕ → ℕ → List ℕ
+abbrev pub in_bytes : ℕ → ℕ → ℕ → ℕ → ℕ → List ℕ
 in_bytes tag count a b c = tag ∷ 1 ∷ 1 ∷ 0 ∷ count ∷ 0 ∷ 0 ∷ 0 ∷ a ∷ b ∷ c ∷ 0 ∷ []
 
 -- The entries of its page: width 2, height 2, bits 8, three strip offsets, samples per pixel 3, byte counts of 5, 1 and 6, planar configuration 1.

@@ -6,3 +6,4 @@ pub mod Third
 pub mod Handed
 pub mod Series
 pub mod Interleaved
+pub mod Bits

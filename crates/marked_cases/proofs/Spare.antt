@@ -1,5 +1,5 @@
--- What the statement about two files says of the small file G, of the time series W and of the interleaved file I, and that it would be false with a
--- shorter list.
+-- What the statement about two files says of the small file G, of the time series W, of the interleaved file I and of a reduced page's bits, and that
+-- it would be false with a shorter list.
 use Prim.Native.Nat.{ℕ, ◌+◌}
 use native.Mathlib.Omega.{arith}
 use mathlib.Core.Bool.{Bool, true, false, ◌&&◌, ◌||◌}
@@ -29,6 +29,7 @@ use Rattle.marked_cases.specs.Marked.{G, G-opened}
 use Rattle.marked_cases.proofs.Listed.{G-open, second, opening_lists, all_lists, second_lists}
 use Rattle.marked_cases.proofs.Series.{W, W-open, column, last_week_lists}
 use Rattle.marked_cases.proofs.Interleaved.{I, I-open, right_column, right_column_lists}
+use Rattle.marked_cases.proofs.Bits.{three_at, then_reduced, reduced_list, reduced_lists}
 
 -- ---- on the list or not
 
@@ -99,6 +100,18 @@ spare_channels =
     let two : Overwritten list I (set (set I 147 200) 149 200) = further list I (set I 147 200) 149 200 one (free 149 refl) in
     let three : Overwritten list I (set (set (set I 147 200) 149 200) 141 200) = further list I _ 141 200 two (free 141 refl) in
     blind_rectangle I _ (coordinate 0 0 1 0) right_column (further list I _ 143 200 three (free 143 refl))
+
+-- "All values read join the list of read bytes", and no others: of a reduced page's three values the second and the third are spare
+abbrev reduced : List ℕ
+reduced = then_reduced 8 16 8 (three_at 40)
+
+spare_bits : Blind reduced (set (set reduced 42 200) 44 200)
+unfolding covers
+spare_bits =
+    let free : (p : ℕ) → covers (reduced_list ++ (36, 4) ∷ []) p ≡ false → Inside p (flat (listed reduced)) → ⊥ =
+    λ p t. rw reduced_lists (spare (reduced_list ++ (36, 4) ∷ []) p t) in
+    let one : Overwritten (listed reduced) reduced (set reduced 42 200) = overwrite (listed reduced) reduced 42 200 (free 42 refl) in
+    blind reduced _ (further (listed reduced) reduced (set reduced 42 200) 44 200 one (free 44 refl))
 
 -- ---- with a shorter list the statement would be false
 

@@ -10,7 +10,7 @@ use lib.Dec.{leb, eqb}
 use borrow.Author.Tests.{leb-true}
 use Rattle.lsm_format.specs.Answer.{decode}
 use Rattle.lsm_format.specs.Numbers.{Order}
-use Rattle.lsm_format.specs.Directory.{Field, samples_per_pixel, Directory, plain, is_short, put, Tag, field, strip_offsets, strip_byte_counts, cz_lsm_info, other, tag_of, entry_by, entry, entries, directory}
+use Rattle.lsm_format.specs.Directory.{Field, bits_per_sample, samples_per_pixel, Directory, plain, is_short, put, put_field, Tag, field, sample_bits, strip_offsets, strip_byte_counts, cz_lsm_info, other, tag_of, entry_by, entry, entries, directory}
 use Rattle.lsm_format.specs.Open.{earlier, Walk, start, join, chain, walk}
 use Rattle.lsm_format.proofs.Accepting.{Accepting, accepting_bind, accepting_then, accepting_need}
 
@@ -25,10 +25,15 @@ unfolding FewSamples
 stated samples_per_pixel v d h e = leb-true v 65535 e
 stated t v d h e = h
 
+put_few : (t : Field) (v : ℕ) (d : Directory) → FewSamples d → Accepting FewSamples (put_field t v d)
+unfolding Accepting
+put_few t v d h = accepting_bind _ _ _ _ (accepting_need decode _) (λ _ e. stated t v d h e)
+
 entry_by_few : (t : Tag) (o : Order) (f : List ℕ) (type count place : ℕ) (d : Directory) → FewSamples d → Accepting FewSamples (entry_by t o f type count place d)
 unfolding Accepting FewSamples
-entry_by_few (field t) o f type count place d h =
-    accepting_then _ _ _ (λ v. accepting_bind _ _ _ _ (accepting_need decode _) (λ _ e. stated t v d h e))
+entry_by_few (field t) o f type count place d h = accepting_then _ _ _ (λ v. put_few t v d h)
+entry_by_few sample_bits o f type count place d h =
+    accepting_then _ _ _ (λ vs. accepting_then _ _ _ (λ v. accepting_bind _ _ _ _ (put_few bits_per_sample v d h) (λ e k. k)))
 entry_by_few strip_offsets o f type count place d h = accepting_then _ _ _ (λ a. h)
 entry_by_few strip_byte_counts o f type count place d h = accepting_then _ _ _ (λ a. h)
 entry_by_few cz_lsm_info o f type count place d h = accepting_then _ _ _ (λ _. accepting_then _ _ _ (λ offset. h))
@@ -64,9 +69,10 @@ earlier_few None true d h k = tt
 earlier_few None false d h k = k
 earlier_few (Some p) b d h k = h
 
-join_few : (w : Walk) (d : Directory) → FewFirst w.first → FewSamples d → Accepting (λ (v : Walk). FewFirst v.first) (join w d)
+join_few : (o : Order) (f : List ℕ) (w : Walk) (d : Directory) → FewFirst w.first → FewSamples d →
+    Accepting (λ (v : Walk). FewFirst v.first) (join o f w d)
 unfolding join Accepting
-join_few w d h k = accepting_then _ _ _ (λ _. earlier_few w.first _ d h k)
+join_few o f w d h k = accepting_then _ _ _ (λ _. earlier_few w.first _ d h k)
 
 chain_few : (n : ℕ) (b : Bool) (o : Order) (f : List ℕ) (place : ℕ) (w : Walk) → FewFirst w.first →
     Accepting (λ (v : Walk). FewFirst v.first) (chain n b o f place w)
@@ -76,7 +82,7 @@ chain_few zero false o f place w h = tt
 chain_few (suc n) true o f place w h = h
 chain_few (suc n) false o f place w h =
     accepting_bind _ _ _ _ (directory_few o f place) (λ d k.
-    accepting_bind _ _ _ _ (join_few w d.0 h k) (λ v l. chain_few n (eqb d.1 0) o f d.1 v l))
+    accepting_bind _ _ _ _ (join_few o f w d.0 h k) (λ v l. chain_few n (eqb d.1 0) o f d.1 v l))
 
 pub walk_few : (o : Order) (f : List ℕ) → Accepting (λ (v : Walk). FewFirst v.first) (walk o f)
 unfolding walk FewFirst

@@ -8,13 +8,13 @@ use mathlib.Core.List.{List, [], ◌∷◌}
 use lib.Dec.{leb, eqb}
 use lib.IntN.{ℤ, pos, negsuc}
 use lib.ListN.{length, length-append}
-use Rattle.lsm_format.specs.Answer.{Result, accepted, refused, bind, need, given, parse, decode, unsupported}
+use Rattle.lsm_format.specs.Answer.{Result, accepted, refused, bind, need, given, parse, decode, unsupported, uneven_bits}
 use Rattle.lsm_format.specs.Numbers.{Order, part_at, number_at, i32_at}
 use Rattle.lsm_format.specs.Scenes.{count, scenes, layout, pages_expected}
 use Rattle.lsm_format.specs.Lent.{lend}
 use Rattle.lsm_format.specs.CzInfo.{CzInfo, header, extents, voxels, channel_block, shots, from, cz_info}
-use Rattle.lsm_format.specs.Directory.{Directory, Tag, field, strip_offsets, strip_byte_counts, cz_lsm_info, other, type_size, value_at, values_at, place_by, value_place, entry_values, scalar_values, scalar, array_values, array, entry_by, entry, entries, ends, directory}
-use Rattle.lsm_format.specs.Open.{agrees_with, agrees, Walk, tiff_header, join, chain, walk, agreement, layout_for, describe, describe_walk, read, open_file, file_limit}
+use Rattle.lsm_format.specs.Directory.{Values, Directory, Tag, field, sample_bits, strip_offsets, strip_byte_counts, cz_lsm_info, other, type_size, value_at, values_at, all_equal, place_by, value_place, entry_values, scalar_values, scalar, array_values, array, entry_by, entry, entries, ends, directory}
+use Rattle.lsm_format.specs.Open.{agrees_with, even_bits, agrees, Walk, tiff_header, join, chain, walk, agreement, layout_for, describe, describe_walk, read, open_file, file_limit}
 use Rattle.lsm_format.specs.Printout.{numbers_text}
 use Rattle.printout_room.proofs.Lengths.{decimal_length}
 
@@ -49,6 +49,9 @@ decode_short = one_short 2 (omega arith)
 unsupported_short : Short unsupported
 unsupported_short = one_short 3 (omega arith)
 
+uneven_short : Short uneven_bits
+uneven_short = one_short 8 (omega arith)
+
 -- ---- steps
 
 -- Whatever is refused is refused with such a row.
@@ -81,7 +84,7 @@ cond_refuses : {A : Type 0} (b : Bool) (x y : Result A) → Refusing x → Refus
 cond_refuses true x y h i = h
 cond_refuses false x y h i = i
 
-ruleset steps = (accepts, refuses, bind_refuses, need_refuses, given_refuses, cond_refuses, parse_short, decode_short, unsupported_short)
+ruleset steps = (accepts, refuses, bind_refuses, need_refuses, given_refuses, cond_refuses, parse_short, decode_short, unsupported_short, uneven_short)
 
 -- ---- numbers in the file
 
@@ -119,9 +122,13 @@ value_refuses : (type : ℕ) (o : Order) (f : List ℕ) (p : ℕ) → Refusing (
 unfolding value_at
 value_refuses type o f p = search (steps, number_refuses)
 
+scalar_values_refuse : (o : Order) (f : List ℕ) (type count place : ℕ) → Refusing (scalar_values o f type count place)
+unfolding scalar_values
+scalar_values_refuse o f type count place = search (steps, values_refuse) depth 12
+
 scalar_refuses : (o : Order) (f : List ℕ) (type count place : ℕ) → Refusing (scalar o f type count place)
-unfolding scalar scalar_values
-scalar_refuses o f type count place = search (steps, values_refuse, value_refuses) depth 12
+unfolding scalar
+scalar_refuses o f type count place = search (steps, scalar_values_refuse, value_refuses) depth 12
 
 each_refuses : (n type : ℕ) (o : Order) (f : List ℕ) (p : ℕ) → Refusing (values_at n type o f p)
 unfolding values_at
@@ -129,12 +136,19 @@ each_refuses zero type o f p = accepts []
 each_refuses (suc n) type o f p =
     bind_refuses _ _ (value_refuses type o f p) (λ v. bind_refuses _ _ (each_refuses n type o f (p + type_size type)) (λ vs. accepts (v ∷ vs)))
 
+equal_refuses : (n v type : ℕ) (o : Order) (f : List ℕ) (p : ℕ) → Refusing (all_equal n v type o f p)
+unfolding all_equal
+equal_refuses zero v type o f p = accepts tt
+equal_refuses (suc n) v type o f p =
+    bind_refuses _ _ (value_refuses type o f p) (λ w. bind_refuses _ _ (search steps) (λ _. equal_refuses n v type o f (p + type_size type)))
+
 array_refuses : (o : Order) (f : List ℕ) (type count place : ℕ) → Refusing (array o f type count place)
 unfolding array array_values
 array_refuses o f type count place = search (steps, values_refuse, each_refuses) depth 12
 
 entry_by_lem : (t : Tag) (o : Order) (f : List ℕ) (type count place : ℕ) (d : Directory) → Refusing (entry_by t o f type count place d)
 entry_by_lem (field t) o f type count place d = search (steps, scalar_refuses) depth 12
+entry_by_lem sample_bits o f type count place d = search (steps, scalar_values_refuse, value_refuses) depth 12
 entry_by_lem strip_offsets o f type count place d = search (steps, array_refuses)
 entry_by_lem strip_byte_counts o f type count place d = search (steps, array_refuses)
 entry_by_lem cz_lsm_info o f type count place d = search (steps, number_refuses)
@@ -160,9 +174,13 @@ agrees_with_lem : (x : Option Directory) (d : Directory) → Refusing (agrees_wi
 agrees_with_lem None d = search steps
 agrees_with_lem (Some p) d = search steps
 
-join_refuses : (w : Walk) (d : Directory) → Refusing (join w d)
+even_bits_lem : (x : Option Values) (o : Order) (f : List ℕ) (d : Directory) → Refusing (even_bits x o f d)
+even_bits_lem None o f d = accepts tt
+even_bits_lem (Some v) o f d = cond_refuses (eqb v.count 1) _ _ (accepts tt) (search (steps, equal_refuses) depth 12)
+
+join_refuses : (o : Order) (f : List ℕ) (w : Walk) (d : Directory) → Refusing (join o f w d)
 unfolding join agrees
-join_refuses w d = search (steps, agrees_with_lem) depth 12
+join_refuses o f w d = search (steps, even_bits_lem, agrees_with_lem) depth 12
 
 chain_refuses : (n : ℕ) (b : Bool) (o : Order) (f : List ℕ) (place : ℕ) (w : Walk) → Refusing (chain n b o f place w)
 unfolding chain
@@ -171,7 +189,7 @@ chain_refuses zero false o f place w = search steps
 chain_refuses (suc n) true o f place w = accepts w
 chain_refuses (suc n) false o f place w =
     bind_refuses _ _ (directory_refuses o f place) (λ d.
-    bind_refuses _ _ (join_refuses w d.0) (λ v. chain_refuses n (eqb d.1 0) o f d.1 v))
+    bind_refuses _ _ (join_refuses o f w d.0) (λ v. chain_refuses n (eqb d.1 0) o f d.1 v))
 
 walk_refuses : (o : Order) (f : List ℕ) → Refusing (walk o f)
 unfolding walk

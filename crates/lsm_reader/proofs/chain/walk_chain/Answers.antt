@@ -20,12 +20,12 @@ entries-preserved c =
 pub returns-then-ends-mark : goal.returns-then-ends-mark
 returns-then-ends-mark c =
     circled _ _ _ _ _ _ _ _ c.dirs.invariant c.if-place-eq0.false _ _ c.in_ok-ends.ensures.ends _ c.entries.d c.entries.invariant c.entries-test.false
-    (c.in_ok-agrees.ensures _ _) c.join-w.result (c.join-w.ensures.joined _ _) _ c.if-ends-mark.true
+    c.in_ok-agrees.ensures c.join-w.result (c.join-w.ensures.joined _ _) _ c.if-ends-mark.true
 
 pub dirs-preserved : goal.dirs-preserved
 dirs-preserved c =
     let g = c.dirs.invariant in
     next_turn _ _ _ _ _ _ _ _ g c.if-place-eq0.false _ _ c.in_ok-ends.ensures.ends _ c.entries.d c.entries.invariant c.entries-test.false
-    (c.in_ok-agrees.ensures _ _) c.join-w.result (c.join-w.ensures.joined _ _)
+    c.in_ok-agrees.ensures c.join-w.result (c.join-w.ensures.joined _ _)
     _ _ _ (search rules) c.in_ok-ends.ensures.below c.join-w.ensures.stepped.0 c.join-w.ensures.stepped.1 (c.join-w.ensures.counted _ _ g.pages g.counted)
     (search rules) c.lay_page-used.ensures (mark_moved _ c.dirs.mark c.join-w.result.visited _ c.move_mark-mark.ensures)
