@@ -98,27 +98,29 @@ def scenes(order, voxels, positions, tiles, colors, names, sample=(16, 1), times
     return o.mark + o.pack('HI', 42, 8) + body + info + channel_block
 
 
-def interleaved(order, width, height, strips, planar, channels, colors, names):
-    """One page of U8 whose channels share its strips, of so many bytes each; PlanarConfiguration as given, or absent; a CZ block of 112 bytes
-    and a channel block, with no pointer to colours or names where there are none. The last name ends the file."""
+def interleaved(order, width, height, strips, planar, channels, colors, names, sample=(8,)):
+    """One page of U8 whose channels share its strips, of so many bytes each; PlanarConfiguration as given, or absent; the values of BitsPerSample;
+    a CZ block of 112 bytes and a channel block, with no pointer to colours or names where there are none. The last name ends the file."""
     o = Order(order)
     count = len(strips)
     entries = 7 if planar is None else 8
     offsets = 8 + 2 + 12 * entries + 4
     counts = offsets + 4 * count
-    pixels = counts + 4 * count
+    depths = counts + 4 * count
+    pixels = depths + (2 * len(sample) if len(sample) > 2 else 0)
     cz = pixels + sum(strips)
     places = [pixels + sum(strips[:n]) for n in range(count)]
 
     def array(tag, values, place):
         return o.entry(tag, 3, *values) if count == 1 else o.entry(tag, 4, count, place=place)
 
+    bits_per_sample = o.entry(258, 3, len(sample), place=depths) if len(sample) > 2 else o.entry(258, 3, *sample)
     tags = [
-        o.entry(256, 3, width), o.entry(257, 3, height), o.entry(258, 3, 8), array(273, places, offsets), o.entry(277, 3, channels),
+        o.entry(256, 3, width), o.entry(257, 3, height), bits_per_sample, array(273, places, offsets), o.entry(277, 3, channels),
         array(279, strips, counts), *([] if planar is None else [o.entry(284, 3, planar)]), o.entry(34412, 1, 112, place=cz),
     ]
     head = o.mark + o.pack('HI', 42, 8) + o.pack('H', entries) + b''.join(tags) + o.pack('I', 0)
-    arrays = o.pack('I' * count, *places) + o.pack('I' * count, *strips)
+    arrays = (o.pack('I' * count, *places) + o.pack('I' * count, *strips) + o.pack('H' * len(sample), *sample))[:pixels - offsets]
     samples = bytes(n % 256 for n in range(sum(strips)))
     info = o.pack('IIIIIII', 0x0400494C, 112, width, height, 1, channels, 1).ljust(108, b'\0') + o.pack('I', cz + 112)
     table = b''.join(bytes(c) + b'\0' for c in colors)
@@ -191,6 +193,13 @@ file(
     'accepted', 'dims 1 2049 1 1 1', 'kind 0', 'pixel - - -', 'scenes 1', 'image', 'channels 2049', '- =6669727374', '- =7365636f6e64',
     *['- -'] * 2047, 'notes 0',
 )
+# "the count must be 1 or SamplesPerPixel (0 taken as 1), and all values equal"
+file(
+    'bits-even', interleaved('M', 2, 2, [7, 5], 1, 3, [(255, 0, 0), (0, 255, 0), (0, 0, 255)], [b'red', b'green', b'blue'], sample=(8, 8, 8)),
+    'accepted', 'dims 1 3 1 2 2', 'kind 0', 'pixel - - -', 'scenes 1', 'image', 'channels 3', 'ff0000 =726564', '00ff00 =677265656e',
+    '0000ff =626c7565', 'notes 0',
+)
+file('bits-uneven', interleaved('I', 2, 2, [8], None, 2, [(255, 0, 0), (0, 255, 0)], [b'red', b'green'], sample=(16, 8)), 'refused 8')
 file('too-long', bytes(65537), 'too long')
 file('longest', bytes(65536), 'refused 1')
 

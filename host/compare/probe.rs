@@ -11,7 +11,7 @@ use std::time::{Duration, Instant};
 
 use memmap2::Mmap;
 
-use super::{parse_lsm, strips_hold_whole_rows, LsmReader, PageStrips};
+use super::{parse_ifd, parse_lsm, read_tiff_header, strips_hold_whole_rows, LsmReader, PageStrips};
 use crate::error::Error;
 use crate::io::map_file;
 use crate::lsm_channel_colors::read_channel_meta;
@@ -188,6 +188,17 @@ fn opened(reader: LsmReader) -> Opened {
     let note = first.notes.first().cloned();
     let channels = first.channels.iter().map(|c| Channel { colour: c.color, name: c.name.clone() }).collect();
     Opened { words, note, table, channels, reader, wide: None }
+}
+
+// What full pages must have alike: the geometry and the number of strips.
+pub type Stated = [u64; 8];
+
+// What the original says of one directory by itself: its next pointer, its entries in turn, and its strip arrays' lengths.
+pub fn directory(file: &[u8], at: usize) -> Result<Stated, Refused> {
+    let (page, p, _, _) = kept(|| parse_ifd(file, at, read_tiff_header(file)?))?;
+    let kind = [p.samples, p.bits, p.sample_format, p.compression, p.planar as u16].map(u64::from);
+    let [samples, bits, format, compression, planar] = kind;
+    Ok([p.width as u64, p.height as u64, samples, bits, format, compression, planar, page.offsets.len() as u64])
 }
 
 // The sorts of file that the original refuses and this reader takes.

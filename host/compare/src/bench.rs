@@ -57,7 +57,8 @@ fn least(times: &[Duration]) -> f64 {
 
 fn line(what: &str, original: &[Duration], port: &[Duration], copy: &[Duration]) {
     let (o, p) = (least(original), least(port));
-    print!("{what:<44} original {o:>9.3} ms   this reader {p:>9.3} ms   {:>6.2} times as fast", o / p);
+    let digits = if o < p / 10.0 { 5 } else { 2 };
+    print!("{what:<44} original {o:>9.3} ms   this reader {p:>9.3} ms   {:>6.digits$} times as fast", o / p);
     if !copy.is_empty() {
         print!("   memcpy {:>9.3} ms   {:>5.2} of its speed", least(copy), least(copy) / p);
     }
@@ -94,18 +95,50 @@ fn picture(port: &mut dyn Port, what: &str, p: &Pages, rect: Option<[usize; 4]>)
     line(what, &original, &ours, if rect.is_none() { &copy } else { &[] });
 }
 
-fn opening(port: &mut dyn Port, what: &str, p: &Pages) {
-    let bytes = file(p);
+// So many pages of several channels of 8 bits, with a value of BitsPerSample for each channel out of line, and a strip for each. All pages
+// share the values and the strip arrays. Without a CZ entry, and then with one strip, the file is refused after its last page.
+fn channels(pages: u64, channels: u64, cz: bool) -> Vec<u8> {
+    let strips = if cz { channels } else { 1 };
+    let directory = 2 + 12 * 8 + 4;
+    let bits = 8 + pages * directory;
+    let arrays = bits + 2 * channels;
+    let block = arrays + 8 * strips;
+    let mut f = File::new(false, (block + 28) as usize);
+    for page in 0..pages {
+        let at = (8 + page * directory) as usize;
+        f.put(at, 8, 2);
+        f.entry(at + 2, 256, 4, 1, 1);
+        f.entry(at + 14, 257, 4, 1, 1);
+        f.entry(at + 26, 258, 3, channels, bits);
+        f.entry(at + 38, 273, 4, strips, if strips == 1 { 8 } else { arrays });
+        f.entry(at + 50, 277, 3, 1, channels);
+        f.entry(at + 62, 279, 4, strips, if strips == 1 { 1 } else { arrays + 4 * strips });
+        f.entry(at + 74, 284, 3, 1, 2);
+        f.entry(at + 86, if cz { 34412 } else { 34411 }, 1, 28, block);
+        f.put(at + 98, if page + 1 < pages { 8 + (page + 1) * directory } else { 0 }, 4);
+    }
+    for i in 0..channels {
+        f.put((bits + 2 * i) as usize, 8, 2);
+    }
+    for i in 0..strips {
+        f.put((arrays + 4 * i) as usize, 8, 4);
+        f.put((arrays + 4 * (strips + i)) as usize, 1, 4);
+    }
+    f.cz(block as usize, [1, 1, pages, channels, 1]);
+    f.bytes
+}
+
+fn opening(port: &mut dyn Port, what: &str, bytes: &[u8], words: u64) {
     let mut memory = Memory::new();
-    let mut table = vec![0; (2 * p.pages * p.strips) as usize];
+    let mut table = vec![0; words as usize];
     let (mut original, mut ours) = (vec![], vec![]);
     for _ in 0..RUNS {
-        let (took, accepted) = probe::timed_open(&mut memory, &bytes);
+        let (took, accepted) = probe::timed_open(&mut memory, bytes);
         assert!(accepted);
         original.push(took);
         let mut answer = [0; OPEN_WORDS];
         let start = Instant::now();
-        let n = port.open(&bytes, &mut table, &mut answer);
+        let n = port.open(bytes, &mut table, &mut answer);
         ours.push(start.elapsed());
         assert_eq!(n, 0);
     }
@@ -127,8 +160,9 @@ pub fn run(port: &mut dyn Port) {
     picture(port, "region 512 x 512, 1,000 pages", &pages(1000), rect);
     picture(port, "region 512 x 512, 10,000 pages", &pages(10_000), rect);
     let small = |pages, strips| Pages { big: false, width: 64, height: 64, size: 1, pages, strips };
-    opening(port, "open, 10,000 directories of one strip", &small(10_000, 1));
-    opening(port, "open, 1,000 directories of 64 strips", &small(1000, 64));
+    opening(port, "open, 10,000 directories of one strip", &file(&small(10_000, 1)), 20_000);
+    opening(port, "open, 1,000 directories of 64 strips", &file(&small(1000, 64)), 128_000);
+    opening(port, "open, 10,000 of three strips, three bits", &channels(10_000, 3, true), 60_000);
 }
 
 // ---- hostile files: what they cost each reader to open
@@ -215,6 +249,7 @@ pub fn hostile(port: &mut dyn Port) {
     hostile_file(port, "65,535 entries", &overlapping(1), 3);
     hostile_file(port, "200 overlapping directories of 65,535", &overlapping(200), 3);
     hostile_file(port, "100,000 strips", &strips(100_000), 3);
+    hostile_file(port, "10,000 pages of 65,535 bits", &channels(10_000, 65_535, false), 3);
     hostile_file(port, "400 strip arrays of 60,000 values", &arrays(400, 60_000, false), 3);
     hostile_file(port, "5,000 strip arrays of 60,000 values", &arrays(5000, 60_000, false), 1);
 }

@@ -1,14 +1,16 @@
 // Both readers on one file: every answer, every number, every word and byte of lent memory.
+use crate::bits;
 use crate::interleaved::{self, Wanted};
 use crate::lent::Lent;
 use crate::make;
 use crate::past;
 use crate::port::Port;
 use crate::random::Random;
+use crate::rules;
 use crate::standin::{CHANNEL_WORDS, DESCRIPTION_WORDS, OPEN_WORDS, PICTURE_WORDS};
 use crate::twin::twin;
 use crate::walk::{walk, Walk};
-use original::probe::{self, Judged, Memory, Opened, Picture, Refused, PANIC, RESERVE};
+use original::probe::{self, Judged, Memory, Opened, Picture, Refused, Sort, PANIC, RESERVE};
 use std::collections::BTreeMap;
 use std::time::{Duration, Instant};
 
@@ -17,11 +19,11 @@ pub const LIMIT: usize = 1 << 32;
 
 // How many of a sort of call came out how: by the refusal's number, 0 for accepted.
 #[derive(Default, Clone)]
-pub struct Count(pub [u64; 8]);
+pub struct Count(pub [u64; 9]);
 
 impl Count {
     fn add(&mut self, n: usize) {
-        self.0[n.min(7)] += 1;
+        self.0[n.min(8)] += 1;
     }
 
     pub fn sum(&self) -> u64 {
@@ -67,6 +69,17 @@ pub struct Interleaved {
     pub alone: u64,
 }
 
+// Files of which the host's rule for the bits of several channels says more than the original: those that it refuses, and those that opened
+// with several values on some full page.
+#[derive(Default, Clone)]
+pub struct Bits {
+    pub uneven: u64,
+    // a value past the file
+    pub past: u64,
+    pub in_line: u64,
+    pub out_of_line: u64,
+}
+
 #[derive(Default, Clone)]
 pub struct Tally {
     pub files: u64,
@@ -83,6 +96,7 @@ pub struct Tally {
     pub past: Past,
     pub series: Series,
     pub interleaved: Interleaved,
+    pub bits: Bits,
     pub not_reserved: u64,
     pub circles: u64,
     pub circles_left: u64,
@@ -111,9 +125,17 @@ pub struct Both {
     out: Lent<u8>,
 }
 
-// What opening a file should answer: what the original says of it or of its twin.
-pub fn judged(memory: &mut Memory, file: &[u8], w: &Walk) -> Judged {
+// What opening a file should answer by the original: what it says of the file or of its twin.
+pub fn by_original(memory: &mut Memory, file: &[u8], w: &Walk) -> Judged {
     probe::judged(memory, file, |sort| twin(file, w, sort.series, sort.interleaved))
+}
+
+// The same by the rule for the bits of several channels where that refuses the file, otherwise by the original.
+pub fn judged(memory: &mut Memory, file: &[u8], w: &Walk, bits: &bits::Found) -> Judged {
+    match bits.refusal {
+        Some(number) => Judged { sort: Sort::default(), answer: Some(Err(bits::refused(number))) },
+        None => by_original(memory, file, w),
+    }
 }
 
 // The original's words for a refusal without its figures: one text for each rule.
@@ -339,9 +361,12 @@ impl Both {
         self.tally.files += 1;
         self.tally.bytes += file.len() as u64;
         let before = self.memory.took;
-        let Judged { sort, answer } = judged(&mut self.memory, file, &w);
+        let found = bits::found(file, &w);
+        let Judged { sort, answer } = judged(&mut self.memory, file, &w, &found);
         self.tally.original += self.memory.took - before;
-        let (series, interleaved) = (&mut self.tally.series, &mut self.tally.interleaved);
+        let (series, interleaved, bits) = (&mut self.tally.series, &mut self.tally.interleaved, &mut self.tally.bits);
+        bits.uneven += (found.refusal == Some(8)) as u64;
+        bits.past += (found.refusal == Some(1)) as u64;
         match answer {
             None => {
                 *if sort.interleaved { &mut interleaved.left_out } else { &mut series.left_out } += 1;
@@ -356,6 +381,8 @@ impl Both {
                 series.opened += sort.series as u64;
                 interleaved.opened += sort.interleaved as u64;
                 interleaved.series += (sort.series && sort.interleaved) as u64;
+                bits.in_line += found.in_line as u64;
+                bits.out_of_line += found.out_of_line as u64;
                 self.describe(file, &w, &mut o);
                 self.accepted(file, &w, &o, r)
             }
@@ -720,6 +747,28 @@ impl Both {
         } else {
             Err(format!("region {at:?} {rect:?}: the host says {}, the original {}", said(&wanted), said(&found)))
         }
+    }
+
+    // The files whose bits settle the number that opening answers: the host must say it, and so must the port.
+    pub fn settled_bits(&mut self) -> Option<String> {
+        for (i, (file, wanted)) in rules::bits().into_iter().enumerate() {
+            let w = walk(&file);
+            let found = bits::found(&file, &w);
+            let said = match judged(&mut self.memory, &file, &w, &found).answer {
+                Some(Ok(_)) => Some(0),
+                Some(Err(refused)) => Some(refused.row[0]),
+                None => None,
+            };
+            let d = if said != Some(wanted) {
+                Some(format!("the host says {said:?}, not {wanted}"))
+            } else {
+                self.examine(&file, &mut Random::of_case(0, i as u64, 0))
+            };
+            if let Some(d) = d {
+                return Some(format!("settled bits {i}: {d}, file {}", crate::hex(&file)));
+            }
+        }
+        None
     }
 
     // The inputs whose answers are settled: the host must say them, and so must the port.

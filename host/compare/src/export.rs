@@ -3,6 +3,8 @@
 mod pixels;
 mod standin;
 mod twin;
+#[allow(dead_code)] // as of pixels
+mod uneven;
 mod walk;
 
 use standin::{CHANNEL_WORDS, DESCRIPTION_WORDS, OPEN_WORDS, PICTURE_WORDS, StandIn};

@@ -168,6 +168,27 @@ fn circle(big: bool, full: bool) -> Vec<u8> {
     f.bytes
 }
 
+// The chain of a full page and so many others, of which the last isn't reduced and has two values of BitsPerSample for one channel.
+fn uneven(big: bool, others: usize) -> Vec<u8> {
+    let mut f = File { bytes: chain(big, others), big };
+    let last = f.bytes.len() - 18;
+    f.entry(last + 2, 258, 3, 2, 8 << 16 | 8);
+    f.bytes
+}
+
+// A page of the most channels, interleaved, with a byte of BitsPerSample for each; the last is another, or so many are missing.
+fn most_bits(big: bool, last: u8, missing: usize) -> Vec<u8> {
+    let most = 65_535;
+    let mut f = page(big, 2, 1, 130 + most, (4, 1, 128), (4, 1, 2));
+    f.entry(34, 258, 1, most as u64, 130);
+    f.entry(82, 277, 3, 1, most as u64);
+    f.cz(100, [2, 1, 1, most as u64, 1]);
+    f.bytes[130..].fill(8);
+    f.bytes[130 + most - 1] = last;
+    f.bytes.truncate(130 + most - missing);
+    f.bytes
+}
+
 pub fn files() -> Vec<(&'static str, Vec<u8>)> {
     let mut list = Vec::new();
     for big in [false, true] {
@@ -198,5 +219,12 @@ pub fn files() -> Vec<(&'static str, Vec<u8>)> {
     list.push(("a circle of reduced pages", circle(false, false)));
     list.push(("a circle of reduced pages", circle(true, false)));
     list.push(("a circle of full pages", circle(false, true)));
+    for big in [false, true] {
+        list.push(("1,000,000 directories, the last of uneven bits", uneven(big, 999_999)));
+        list.push(("1,000,001 directories, the last of uneven bits", uneven(big, 1_000_000)));
+        list.push(("bits of 65,535 channels", most_bits(big, 8, 0)));
+        list.push(("bits of 65,535 channels, the last uneven", most_bits(big, 9, 0)));
+        list.push(("bits of 65,535 channels, the last past the file", most_bits(big, 8, 1)));
+    }
     list
 }

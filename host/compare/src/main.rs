@@ -1,5 +1,6 @@
 // Compares a port of the LSM reader with the original. README.md one folder up says how it is run.
 mod bench;
+mod bits;
 mod check;
 mod interleaved;
 mod joined;
@@ -16,6 +17,8 @@ mod rules;
 #[cfg_attr(feature = "library", allow(dead_code))]
 mod standin;
 mod twin;
+#[cfg_attr(feature = "library", allow(dead_code))]
+mod uneven;
 mod walk;
 
 use check::{Both, Count, Tally};
@@ -53,7 +56,7 @@ const USAGE: &str = "options:
   --no-large     without the large files
   --no-pictures  without planes and regions
   --keep N       go on until N differences were shown (1)
-  --fault N      a port with a fault, 1 to 41, to see that it is noticed
+  --fault N      a port with a fault, 1 to 50, to see that it is noticed
   --bench        times of both instead of a comparison
   --hostile      times of opening hostile files
   --case N       only this case: its bytes and both answers
@@ -184,8 +187,8 @@ fn show(both: &mut Both, file: &[u8], seed: u64, case: u64, difference: &str, wh
 }
 
 fn line(name: &str, c: &Count) {
-    let [ok, a, b, d, e, f, g, h] = c.0;
-    println!("{name:<10}{:>12}  accepted {ok}  1: {a}  2: {b}  3: {d}  4: {e}  5: {f}  6: {g}  7: {h}", c.sum());
+    let [ok, a, b, d, e, f, g, h, i] = c.0;
+    println!("{name:<10}{:>12}  accepted {ok}  1: {a}  2: {b}  3: {d}  4: {e}  5: {f}  6: {g}  7: {h}  8: {i}", c.sum());
 }
 
 fn report(t: &Tally, o: &Options, port: &str, took: Duration, differences: u64) {
@@ -225,6 +228,11 @@ fn report(t: &Tally, o: &Options, port: &str, took: Duration, differences: u64) 
     println!(
         "interleaved channels: {} opened ({} of them series), {} refused by their twins; {} planes and {} regions accepted; {} calls judged by the original too, {} by the host alone",
         i.opened, i.series, i.refused, i.planes, i.regions, i.both, i.alone
+    );
+    let b = &t.bits;
+    println!(
+        "bits for each channel: {} refused with 8 and {} with 1 by the host; opened with several values {} in line and {} out of line",
+        b.uneven, b.past, b.in_line, b.out_of_line
     );
     println!(
         "not compared: {} circles beyond those asked ({} asked), {} pictures that the original would reserve first, {} series and {} files of interleaved channels without a twin",
@@ -276,11 +284,10 @@ fn main() {
     }
     let start = Instant::now();
     let mut differences = 0;
-    if both.pictures {
-        if let Some(d) = both.settled() {
-            differences += 1;
-            println!("DIFFERENCE: {d}");
-        }
+    let settled = both.settled_bits().or_else(|| if both.pictures { both.settled() } else { None });
+    if let Some(d) = settled {
+        differences += 1;
+        println!("DIFFERENCE: {d}");
     }
     if o.large {
         both.circles = 3;

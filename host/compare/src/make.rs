@@ -139,6 +139,7 @@ enum Where {
 }
 
 struct Page {
+    reduced: bool,
     entries: Vec<Entry>,
     strips: Vec<(Where, u64)>,
     next: Option<u32>,
@@ -317,6 +318,8 @@ struct Plan {
     block_fields: Vec<usize>,
     block_pointer: Option<i64>,
     strips: Vec<Vec<u8>>,
+    // a page whose BitsPerSample stands last in the file, and how many bytes of it are missing
+    last: Option<(usize, usize)>,
 }
 
 impl Plan {
@@ -336,6 +339,7 @@ fn plan(r: &mut Random, faults: Vec<Fault>, small: bool) -> Plan {
         block_fields: Vec::new(),
         block_pointer: None,
         strips: Vec::new(),
+        last: None,
     };
 
     // the CZ block's lengths
@@ -596,7 +600,7 @@ fn plan(r: &mut Random, faults: Vec<Fault>, small: bool) -> Plan {
                 e.push(Entry { tag: LENGTHS_TAG, ty: ty2, count: n, data: Data::Lengths, place: None });
             }
         }
-        p.pages.push(Page { entries: e, strips, next: None });
+        p.pages.push(Page { reduced: thumbnail, entries: e, strips, next: None });
     }
 
     cz_entries(r, &mut p, declared);
@@ -798,6 +802,148 @@ fn faulty_entries(r: &mut Random, p: &mut Plan) {
     }
 }
 
+// The last entry of a tag, which counts.
+fn of_tag(entries: &[Entry], tag: u16) -> Option<usize> {
+    entries.iter().rposition(|e| e.tag == tag)
+}
+
+// The first value of an entry that has its values where they should stand.
+fn first_of(e: &Entry) -> Option<u64> {
+    match &e.data {
+        Data::Values(v) if e.count != 0 && e.place.is_none() && walk::size_of(e.ty as u64) != 0 => v.first().copied(),
+        _ => None,
+    }
+}
+
+// BitsPerSample of several values. On each full page there are as many as channels, or one; in few files what isn't so, in one of many ways,
+// and reduced pages have any. The lists of recorded answers take their files without this, so that they are the same as before it.
+fn bits(r: &mut Random, p: &mut Plan) {
+    for page in &mut p.pages {
+        let Some(at) = of_tag(&page.entries, BITS) else { continue };
+        let Some(value) = first_of(&page.entries[at]) else { continue };
+        let samples = of_tag(&page.entries, SAMPLES).and_then(|i| first_of(&page.entries[i])).unwrap_or(1);
+        let several = samples < 70 && r.chance(if page.reduced { 30 } else { 60 });
+        let values = if several { vec![value; samples.max(1) as usize] } else { vec![value] };
+        put_bits(r, &mut page.entries[at], values);
+        // an earlier entry, of which only the first value is read
+        if r.chance(12) {
+            let values = (0..r.of(&[1, 1, 2, 3, samples.clamp(1, 9)])).map(|_| r.of(&[value, value, 8, 16, 9])).collect();
+            let mut e = Entry { tag: BITS, ty: 3, count: 1, data: Data::CzPlace, place: None };
+            put_bits(r, &mut e, values);
+            page.entries.insert(r.below(at + 1), e);
+        }
+    }
+    if r.chance(5) && !p.pages.is_empty() {
+        for _ in 0..r.of(&[1, 1, 1, 2]) {
+            uneven(r, p);
+        }
+    }
+}
+
+// Values in a type that holds them all.
+fn put_bits(r: &mut Random, e: &mut Entry, values: Vec<u64>) {
+    e.ty = match values.iter().max().copied().unwrap_or(0) {
+        0..=0xff => r.of(&[3, 3, 3, 4, 1, 6, 7, 8, 9, 11]),
+        0..=0xffff => r.of(&[3, 3, 4, 8, 9, 11]),
+        _ => r.of(&[4, 9, 11]),
+    };
+    e.count = values.len() as u32;
+    e.data = Data::Values(values);
+}
+
+// Bits that a page is refused for, if it is a full one; now and then with another fault beside it, so that it shows which comes first.
+fn uneven(r: &mut Random, p: &mut Plan) {
+    // mostly one of several channels
+    let mut page = r.below(p.pages.len());
+    for _ in 0..3 {
+        let e = &p.pages[page].entries;
+        if of_tag(e, SAMPLES).and_then(|i| first_of(&e[i])).unwrap_or(1) < 2 {
+            page = r.below(p.pages.len());
+        }
+    }
+    let e = &mut p.pages[page].entries;
+    let Some(at) = of_tag(e, BITS) else { return };
+    let Some(value) = first_of(&e[at]) else { return };
+    let samples_at = of_tag(e, SAMPLES);
+    let samples = samples_at.and_then(|i| first_of(&e[i])).filter(|&n| n < 70).unwrap_or(1).max(1) as usize;
+    let other = r.of(&[value + 1, value ^ 1, value ^ 24, 0, value << 8, value + 65_536, value | 1 << 31, 16, 8]);
+    let mut values = vec![value; samples];
+    if r.chance(35) && 1 < samples {
+        values[1 + r.below(samples - 1)] = other;
+    }
+    match r.below(10) {
+        // one is another
+        0..=2 if 1 < samples => {
+            values = vec![value; samples];
+            values[1 + r.below(samples - 1)] = other;
+            put_bits(r, &mut e[at], values);
+        }
+        // as many as there are not
+        0..=4 => {
+            values.resize(r.of(&[2, 3, samples + 1, samples.saturating_sub(1), 2 * samples, 5]).max(1), value);
+            put_bits(r, &mut e[at], values);
+            if r.chance(30) {
+                e[at].count = r.of(&[0, 1000, 65_536 + samples as u32, 0xffff_ffff, 0x4000_0000 + samples as u32]);
+            }
+        }
+        // the file ends within them
+        5..=7 => {
+            if samples == 1 && r.chance(50) {
+                values.push(value);
+            }
+            put_bits(r, &mut e[at], values);
+            if size_of(e[at].ty) as u32 * e[at].count <= 4 {
+                e[at].ty = r.of(&[4, 9, 11]);
+            }
+            let size = size_of(e[at].ty);
+            if 4 < size * e[at].count as usize {
+                let missing = 1 + r.below(size * (e[at].count as usize - 1));
+                p.last = Some((page, if r.chance(60) { missing.min(size) } else { missing }));
+            }
+        }
+        // another number of channels, earlier or later in the directory, or none
+        8 => {
+            let n = r.of(&[samples - 1, samples + 1, 1, 2, 3]) as u64;
+            let entry = scalar(r, SAMPLES, n, true);
+            match samples_at {
+                _ if r.chance(70) => e.insert(r.below(e.len() + 1), entry),
+                Some(i) => drop(e.remove(i)),
+                None => e.push(entry),
+            }
+        }
+        // another page's
+        _ => {
+            let from = r.below(p.pages.len());
+            let other = of_tag(&p.pages[from].entries, BITS).map(|i| &p.pages[from].entries[i]);
+            let Some((ty, count, Some(n))) = other.map(|e| (e.ty, e.count, first_of(e))) else { return };
+            let e = &mut p.pages[page].entries[at];
+            (e.ty, e.count, e.data) = (ty, count, Data::Values(vec![n; count.min(70) as usize]));
+        }
+    }
+    // the strip arrays' lengths come before, the geometry and the number of strips after
+    let e = &mut p.pages[page].entries;
+    match r.below(10) {
+        0 => {
+            if let Some(i) = of_tag(e, LENGTHS_TAG) {
+                e[i].count = r.of(&[e[i].count.wrapping_add(1), e[i].count.saturating_sub(1)]);
+            }
+        }
+        1 => {
+            if let Some(i) = of_tag(e, HEIGHT) {
+                e[i].data = Data::Values(vec![r.below(5) as u64]);
+            }
+        }
+        2 => {
+            for tag in [OFFSETS, LENGTHS_TAG] {
+                if let Some(i) = of_tag(e, tag) {
+                    e[i].count = e[i].count.wrapping_add(1);
+                }
+            }
+        }
+        _ => {}
+    }
+}
+
 fn lay(r: &mut Random, p: &Plan) -> Made {
     let mut pieces = Vec::new();
     for (i, page) in p.pages.iter().enumerate() {
@@ -817,6 +963,14 @@ fn lay(r: &mut Random, p: &Plan) -> Made {
     let at = r.below(pieces.len() + 1);
     let at = if r.chance(50) { pieces.len() } else { at };
     pieces.insert(at, Piece::Block);
+    let last = p.last.and_then(|(page, missing)| Some((page, of_tag(&p.pages[page].entries, BITS)?, missing)));
+    if let Some((page, entry, _)) = last {
+        let is_last = |piece: &Piece| matches!(piece, &Piece::Data(i, j) if (i, j) == (page, entry));
+        if let Some(at) = pieces.iter().position(is_last) {
+            let piece = pieces.remove(at);
+            pieces.push(piece);
+        }
+    }
 
     let length = |piece: &Piece| match *piece {
         Piece::Directory(i) => 6 + 12 * p.pages[i].entries.len(),
@@ -958,6 +1112,12 @@ fn lay(r: &mut Random, p: &Plan) -> Made {
     for (i, s) in p.strips.iter().enumerate() {
         set(f, strip_places[i], s);
     }
+    if let Some((page, entry, missing)) = last {
+        let at = data_places[page][entry];
+        if at != 0 {
+            made.file.truncate(at + length(&Piece::Data(page, entry)).saturating_sub(missing));
+        }
+    }
     if p.has(Fault::Short) {
         let cut = r.of(&[1, 2, 3, 4, 8, 20]);
         let n = made.file.len().saturating_sub(cut);
@@ -966,12 +1126,16 @@ fn lay(r: &mut Random, p: &Plan) -> Made {
     made
 }
 
-fn build(r: &mut Random, faults: usize, small: bool) -> Made {
+// A file with as many faults; with several values of BitsPerSample where they are asked for.
+fn build(r: &mut Random, faults: usize, small: bool, several: bool) -> Made {
     let mut list = Vec::new();
     for _ in 0..faults {
         list.push(r.of(&FAULTS));
     }
-    let p = plan(r, list, small);
+    let mut p = plan(r, list, small);
+    if several {
+        bits(r, &mut p);
+    }
     lay(r, &p)
 }
 
@@ -1090,30 +1254,30 @@ fn relink(r: &mut Random, m: &mut Made) {
 // A small right file, the ground of truncations and one-byte changes.
 pub fn base(seed: u64, number: u64) -> Vec<u8> {
     let mut r = Random::of_case(seed, number, 7);
-    build(&mut r, 0, true).file
+    build(&mut r, 0, true, true).file
 }
 
-// A file for the recorded list: small.
+// A file for the recorded lists: small.
 pub fn small(seed: u64, case: u64) -> Vec<u8> {
     let mut r = Random::of_case(seed, case, 11);
     match r.below(100) {
-        0..=29 => build(&mut r, 0, true).file,
+        0..=29 => build(&mut r, 0, true, false).file,
         30..=79 => {
             let n = if r.chance(85) { 1 } else { 2 };
-            build(&mut r, n, true).file
+            build(&mut r, n, true, false).file
         }
         80..=91 => {
-            let mut m = build(&mut r, 0, true);
+            let mut m = build(&mut r, 0, true, false);
             edit(&mut r, &mut m);
             m.file
         }
         92..=95 => {
-            let mut m = build(&mut r, 0, true);
+            let mut m = build(&mut r, 0, true, false);
             relink(&mut r, &mut m);
             m.file
         }
         _ => {
-            let mut f = build(&mut r, 0, true).file;
+            let mut f = build(&mut r, 0, true, false).file;
             f.truncate(r.below(f.len() + 1));
             f
         }
@@ -1138,21 +1302,30 @@ pub fn file(seed: u64, case: u64) -> Vec<u8> {
         f.truncate((n % LENGTHS) as usize);
         return f;
     }
+    made(seed, case, true)
+}
+
+// Any file for the recorded lists.
+pub fn listed(seed: u64, case: u64) -> Vec<u8> {
+    made(seed, case, false)
+}
+
+fn made(seed: u64, case: u64, several: bool) -> Vec<u8> {
     let mut r = Random::of_case(seed, case, 0);
     match r.below(100) {
         0..=64 => {
             let faults = r.of(&[0, 0, 0, 0, 0, 0, 0, 1, 1, 1, 2]);
-            build(&mut r, faults, false).file
+            build(&mut r, faults, false, several).file
         }
         65..=78 => {
-            let mut m = build(&mut r, 0, false);
+            let mut m = build(&mut r, 0, false, several);
             for _ in 0..r.of(&[1, 1, 2]) {
                 edit(&mut r, &mut m);
             }
             m.file
         }
         79..=88 => {
-            let mut f = build(&mut r, 0, false).file;
+            let mut f = build(&mut r, 0, false, several).file;
             for _ in 0..r.of(&[1, 1, 1, 2, 4]) {
                 let at = r.below(f.len());
                 f[at] = if r.chance(50) { f[at] ^ (1 << r.below(8)) } else { r.next() as u8 };
@@ -1160,13 +1333,13 @@ pub fn file(seed: u64, case: u64) -> Vec<u8> {
             f
         }
         89..=93 => {
-            let mut f = build(&mut r, 0, false).file;
+            let mut f = build(&mut r, 0, false, several).file;
             let n = r.below(f.len() + 1);
             f.truncate(if r.chance(50) { n } else { f.len() - n.min(r.below(30)) });
             f
         }
         94..=98 => {
-            let mut m = build(&mut r, 0, false);
+            let mut m = build(&mut r, 0, false, several);
             relink(&mut r, &mut m);
             m.file
         }

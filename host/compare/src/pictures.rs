@@ -1,10 +1,11 @@
 // Writes a list of planes and rectangles of small accepted files with the original's answers, in the form of tools/record/README.md.
+use crate::bits;
 use crate::check::{self, place, rectangle, reserved, LIMIT};
 use crate::interleaved::{self, Wanted};
 use crate::make;
 use crate::past;
 use crate::random::Random;
-use crate::record::{judged, line, refusal, List};
+use crate::record::{by_original, line, refusal, List};
 use crate::rules;
 use crate::walk::walk;
 use original::probe::{self, Memory, Opened, Picture, Refused, PANIC, RESERVE};
@@ -170,7 +171,7 @@ impl List {
 pub fn record(list: &mut List, seed: u64, count: usize) {
     let mut memory = Memory::new();
     for (file, at, rect) in rules::calls() {
-        let o = judged(&mut memory, &file, &walk(&file)).unwrap_or_else(|r| panic!("a file of rules.rs: {}", r.text));
+        let o = by_original(&mut memory, &file, &walk(&file)).unwrap_or_else(|r| panic!("a file of rules.rs: {}", r.text));
         list.call(&file, &o, at, rect);
     }
     let handed = [rules::handed(), rules::handed_series(), rules::handed_interleaved()];
@@ -190,19 +191,20 @@ pub fn record(list: &mut List, seed: u64, count: usize) {
     while list.written() < count {
         case += 1;
         let often = 2 + case as usize / 20_000;
-        let f = if case % 2 == 0 { make::small(seed, case) } else { make::file(seed, case) };
+        let f = if case % 2 == 0 { make::small(seed, case) } else { make::listed(seed, case) };
         let w = walk(&f);
         let text = line('p', &[], &f).len();
         if w.circle || 2000 < f.len() || 940 < text {
             continue;
         }
-        let Some(Ok(o)) = check::judged(&mut memory, &f, &w).answer else { continue };
+        let Some(Ok(o)) = check::by_original(&mut memory, &f, &w).answer else { continue };
         // One full page of one channel is had from a short file. A series of several planes takes a longer one.
         let pictures = o.words[3] * o.words[4] * o.words[7] * o.words[17];
         if (pictures == 1 && 380 < text) || (o.words[17] == 1 && 720 < text) || TABLE < o.table.len() {
             continue;
         }
         list.files += 1;
+        let mark = list.mark();
         let mut r = Random::of_case(seed, case, 17);
         for _ in 0..2 {
             list.picture(&f, &o, place(&o, &mut r), None, often);
@@ -211,6 +213,10 @@ pub fn record(list: &mut List, seed: u64, count: usize) {
             let at = place(&o, &mut r);
             let rect = rectangle(o.words[6], o.words[5], &mut r);
             list.picture(&f, &o, at, Some(rect), often);
+        }
+        // a file that isn't opened for the bits of its channels has no pictures
+        if bits::found(&f, &w).refusal.is_some() {
+            list.back(mark);
         }
     }
 }

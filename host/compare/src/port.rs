@@ -1,6 +1,7 @@
 // The reader that is compared with the original, at the level of the C interface's words.
 use crate::pixels::Pixels;
 use crate::standin::{CHANNEL_WORDS, DESCRIPTION_WORDS, OPEN_WORDS, PICTURE_WORDS, Past, StandIn};
+use crate::uneven::Bits;
 use crate::walk::{number, walk, PLANAR};
 
 pub trait Port {
@@ -117,7 +118,7 @@ impl Port for Library {
 pub struct Faulty {
     port: Box<dyn Port>,
     fault: usize,
-    // answers for rectangles, or for interleaved channels, where these are at fault as a whole
+    // answers for rectangles, for interleaved channels, or for opening, where these are at fault as a whole
     beside: StandIn,
 }
 
@@ -182,8 +183,25 @@ fn pixels(fault: usize) -> Pixels {
     }
 }
 
+// What a faulty port does with the bits of several channels.
+fn bits(fault: usize) -> Bits {
+    match fault {
+        42 => Bits::Second,
+        43 => Bits::AnyCount,
+        44 => Bits::Reduced,
+        45 => Bits::BeforeArrays,
+        46 => Bits::AfterAgreement,
+        47 => Bits::AsRead,
+        48 => Bits::Cut,
+        49 => Bits::Range,
+        50 => Bits::Overruled,
+        _ => Bits::Right,
+    }
+}
+
 // 1 to 10 are faults of opening, 11 to 15 of channel lookup, 16 to 24 of pictures, 25 to 28 of series; of interleaved channels 29 to 36 are
-// faults of pictures (pixels.rs says which), 37 to 40 of opening and 41 of words that are no description.
+// faults of pictures (pixels.rs says which), 37 to 40 of opening and 41 of words that are no description; 42 to 50 are faults of the bits of
+// several channels (uneven.rs).
 impl Port for Faulty {
     fn name(&self) -> &'static str {
         "faulty"
@@ -194,6 +212,10 @@ impl Port for Faulty {
     }
 
     fn open(&mut self, file: &[u8], table: &mut [usize], answer: &mut [usize; OPEN_WORDS]) -> usize {
+        self.beside.bits = bits(self.fault);
+        if self.beside.bits != Bits::Right {
+            return self.beside.open(file, table, answer);
+        }
         let before = *answer;
         // PlanarConfiguration is cut to 16 bits
         let other = if self.fault == 38 { cut(file) } else { Vec::new() };

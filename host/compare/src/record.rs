@@ -1,4 +1,5 @@
 // Writes a list of small files with the original's answers, in the form of tools/record/README.md.
+use crate::bits;
 use crate::check::{self, rule};
 use crate::large;
 use crate::make;
@@ -42,9 +43,17 @@ pub fn refusal(row: &[usize; 5]) -> &[usize] {
 // The most words of a table that the replay of openings lends.
 const TABLE: usize = 64;
 
-// What opening should answer. A file that neither the original nor a twin judges is in no list.
-pub fn judged(memory: &mut Memory, file: &[u8], w: &Walk) -> Result<Opened, Refused> {
-    check::judged(memory, file, w).answer.expect("a file that the original or a twin's answer judges")
+// What opening should answer by the original. A file that neither the original nor a twin judges is in no list.
+pub fn by_original(memory: &mut Memory, file: &[u8], w: &Walk) -> Result<Opened, Refused> {
+    check::by_original(memory, file, w).answer.expect("a file that the original or a twin's answer judges")
+}
+
+// How far a list has come.
+pub struct Mark {
+    text: usize,
+    files: usize,
+    lines: BTreeMap<String, usize>,
+    most: [usize; 2],
 }
 
 pub struct List {
@@ -84,10 +93,35 @@ impl List {
         wanted
     }
 
-    // `o ROOM ANSWER:FILE` and, where it opens, `n CHANNEL ROOM ANSWER:FILE`.
+    pub fn mark(&self) -> Mark {
+        Mark { text: self.text.len(), files: self.files, lines: self.lines.clone(), most: [self.most_numbers, self.most_bytes] }
+    }
+
+    // Takes back what was written since. What was drawn stays drawn, so the lines that follow are the same as if it stood.
+    pub fn back(&mut self, mark: Mark) {
+        self.text.truncate(mark.text);
+        self.files = mark.files;
+        self.lines = mark.lines;
+        [self.most_numbers, self.most_bytes] = mark.most;
+    }
+
+    // The lines of a file. Of one that the rule for the bits of several channels refuses, that refusal takes the place of those that the
+    // original would have.
     fn file(&mut self, file: &[u8], w: &Walk) {
+        let mark = self.mark();
+        self.as_original(file, w);
+        if let Some(number) = bits::found(file, w).refusal {
+            self.back(mark);
+            self.files += 1;
+            self.push('o', &[TABLE, number], file);
+            self.count(format!("o {number}"));
+        }
+    }
+
+    // `o ROOM ANSWER:FILE` and, where it opens, `n CHANNEL ROOM ANSWER:FILE`.
+    fn as_original(&mut self, file: &[u8], w: &Walk) {
         self.files += 1;
-        match judged(&mut self.memory, file, w) {
+        match by_original(&mut self.memory, file, w) {
             Err(r) => {
                 let room = self.random.of(&[0, 1, 8, 64]);
                 let mut n = vec![room];
@@ -118,7 +152,8 @@ impl List {
     // A file that stands for a rule: its answer, and every channel's where there is a channel block.
     fn rule(&mut self, file: &[u8], w: &Walk) {
         self.files += 1;
-        match judged(&mut self.memory, file, w) {
+        let answer = check::judged(&mut self.memory, file, w, &bits::found(file, w)).answer;
+        match answer.expect("a file that the rules, the original or a twin's answer judges") {
             Err(r) => {
                 self.push('o', &[&[TABLE], refusal(&r.row)].concat(), file);
                 self.count(format!("o {}", r.row[0]));
@@ -252,10 +287,10 @@ fn written(file: &[u8], w: &Walk) -> Option<Vec<String>> {
     Some(v)
 }
 
-// What a file shows: a refusal's rule, or the features of an accepted one. Files are taken so that each is there several times.
+// What a file shows to the original: a refusal's rule, or the features of an accepted one. Files are taken so that each is there several times.
 // `None` for a file that nobody judges, and for a long table.
 fn shows(memory: &mut Memory, file: &[u8], w: &Walk) -> Option<Vec<String>> {
-    let Judged { sort, answer } = check::judged(memory, file, w);
+    let Judged { sort, answer } = check::by_original(memory, file, w);
     let answer = answer?;
     let sort = match (sort.series, sort.interleaved) {
         (false, false) => "",
@@ -445,7 +480,7 @@ pub fn write(folder: &str, seed: u64, count: usize) {
     let mut case = 0;
     while long.files < 12 {
         case += 1;
-        let f = make::file(seed, case);
+        let f = make::listed(seed, case);
         let w = walk(&f);
         if w.circle || 2600 < f.len() || 700 < line('o', &[], &f).len() {
             continue;
@@ -459,8 +494,13 @@ pub fn write(folder: &str, seed: u64, count: usize) {
                 [1023u32, 1024, 1025].iter().any(|k| f.windows(4).any(|b| b == k.to_le_bytes() || b == k.to_be_bytes()));
             let often = lengths.entry(n.min(2000)).or_default();
             if stored && 1500 < f.len() && *often < 2 && words <= TABLE {
-                *often += 1;
+                let mark = long.mark();
                 long.file(&f, &w);
+                if bits::found(&f, &w).refusal.is_some() {
+                    long.back(mark);
+                } else {
+                    *often += 1;
+                }
             }
         }
     }

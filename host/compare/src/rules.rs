@@ -2,6 +2,7 @@
 // has the number of a later check, the file has a second fault with another number, so that the answer tells which came first.
 use crate::large::File;
 use crate::standin::DESCRIPTION_WORDS;
+use crate::walk::size_of;
 
 const WIDTH: u64 = 256;
 const HEIGHT: u64 = 257;
@@ -145,6 +146,36 @@ impl Small {
         let places = lengths.iter().scan(first, |at, n| Some(std::mem::replace(at, *at + n)));
         let strips: Vec<(u64, u64)> = places.zip(lengths.iter().copied()).collect();
         self.strips(&strips)
+    }
+
+    // With these BitsPerSample values on the last page: in the entry where they fit, otherwise behind the data.
+    fn bits(mut self, ty: u64, values: &[u64]) -> Small {
+        let bytes = self.numbers(ty, values);
+        let mut value = (BLOCK + 4 * self.cz.len() + self.data.len()) as u64;
+        match <[u8; 4]>::try_from([&bytes[..], &[0; 3]].concat()[..4].to_vec()) {
+            _ if 4 < bytes.len() => self.data.extend(&bytes),
+            // File::entry puts a value of this sort at the field's start
+            _ if ty == 3 && values.len() == 1 => value = values[0],
+            Ok(field) if self.big => value = u32::from_be_bytes(field) as u64,
+            Ok(field) => value = u32::from_le_bytes(field) as u64,
+            Err(short) => panic!("{short:?}"),
+        }
+        self.with(BITS, |e| (e.ty, e.count, e.value) = (ty, values.len() as u64, value))
+    }
+
+    // The file with such values behind all else, of which so many bytes are missing.
+    fn bits_at_end(self, ty: u64, values: &[u64], missing: usize) -> Vec<u8> {
+        let bytes = self.numbers(ty, values);
+        let at = self.bytes().len() as u64;
+        let f = self.with(BITS, |e| (e.ty, e.count, e.value) = (ty, values.len() as u64, at));
+        [&f.bytes()[..], &bytes[..bytes.len() - missing]].concat()
+    }
+
+    // The bytes of values of a type.
+    fn numbers(&self, ty: u64, values: &[u64]) -> Vec<u8> {
+        let size = size_of(ty) as usize;
+        let bytes = |n: &u64| if self.big { n.to_be_bytes()[8 - size..].to_vec() } else { n.to_le_bytes()[..size].to_vec() };
+        values.iter().flat_map(bytes).collect()
     }
 
     fn back(mut self, directory: usize) -> Small {
@@ -466,6 +497,106 @@ fn interleaved(list: &mut Vec<Vec<u8>>) {
     }
     list.push(of_channel_block(chunky(3), &block));
     list.push(of_channel_block(chunky(3), &block[..43]));
+}
+
+// Bits stated for each channel, with the number that opening answers: "On a full page the count must be 1 or SamplesPerPixel (0 taken as 1), and
+// all values equal. [..] The other values are read only when the count is SamplesPerPixel, in turn, each compared before the next; one past
+// the file is 1."
+pub fn bits() -> Vec<(Vec<u8>, usize)> {
+    let mut list = Vec::new();
+    values_and_counts(&mut list);
+    pages_of_bits(&mut list);
+    bits_in_turn(&mut list);
+    list
+}
+
+type Answered = Vec<(Vec<u8>, usize)>;
+
+fn values_and_counts(list: &mut Answered) {
+    let mut add = |f: Small, number| list.push((f.bytes(), number));
+    add(chunky(2), 0);
+    add(chunky(2).bits(3, &[8, 8]), 0);
+    add(chunky(2).bits(3, &[16, 8]), 8);
+    add(chunky(2).bits(3, &[8, 8, 8]), 8);
+    add(chunky(3).bits(3, &[8, 8]), 8);
+    add(chunky(2).value(PLANAR, 2).cut(&[2, 2]).bits(3, &[8, 16]), 8);
+    // one channel takes one value
+    for f in [small(), small().value(SAMPLES, 0), small().without(SAMPLES)] {
+        add(f.clone(), 0);
+        add(f.bits(3, &[8, 8]), 8);
+    }
+    // a count isn't cut to 16 bits, nor a value; of no value it is 2, as ever
+    add(small().bits(3, &[8, 8, 8]).with(BITS, |e| e.count = 65_537), 8);
+    add(small().bits(3, &[8, 8, 8]).with(BITS, |e| e.count = 0), 2);
+    add(chunky(3).bits(4, &[16, 65_552, 16]), 8);
+    add(chunky(3).bits(4, &[16, 16, 16]), 0);
+    // each type, in both orders; the last value is compared too
+    for (ty, big) in [(1, true), (6, false), (7, true), (8, true), (9, false), (11, true)] {
+        add(Small { big, ..chunky(3) }.bits(ty, &[8, 8, 8]), 0);
+        add(Small { big, ..chunky(3) }.bits(ty, &[8, 8, 9]), 8);
+    }
+    add(Small { big: true, ..chunky(2) }.bits(3, &[8, 8]), 0);
+    // a missing tag isn't held to it
+    add(chunky(2).without(BITS), 3);
+    // SamplesPerPixel is that of the whole directory
+    let after = |f: Small| f.without(BITS).entry(BITS, 3, 1, 8).bits(3, &[8, 8, 8]);
+    add(after(chunky(3).value(SAMPLES, 1)).entry(SAMPLES, 3, 1, 3), 0);
+    add(after(small().value(SAMPLES, 3)).entry(SAMPLES, 3, 1, 1), 8);
+    // of several entries the last counts, with its count and its values
+    add(small().bits(3, &[8, 9]).entry(BITS, 3, 1, 8), 0);
+    add(small().entry(BITS, 3, 2, 9 << 16 | 8), 8);
+    add(chunky(2).value(BITS, 16).entry(BITS, 3, 2, 8 << 16 | 8), 0);
+    add(chunky(2).bits(3, &[8, 8]).entry(BITS, 3, 2, 8 << 16 | 16), 8);
+}
+
+// Full pages and reduced ones, and the place in the order.
+fn pages_of_bits(list: &mut Answered) {
+    let mut add = |f: Small, number| list.push((f.bytes(), number));
+    let uneven = || chunky(2).bits(3, &[8, 16]);
+    let two = |first: Small, channels| first.cz(Z, 2).page().value(SAMPLES, channels).value(COUNTS, 2 * channels);
+    // a reduced page is held to nothing of it; NewSubfileType 2 is a full one
+    let reduced = |values: &[u64]| small().reduced().entry(BITS, 3, 1, 8).bits(3, values);
+    add(reduced(&[8, 16]), 0);
+    add(reduced(&[8, 16, 8]), 0);
+    add(reduced(&[8, 16]).entry(SUBFILE, 3, 1, 2), 8);
+    // pages of one value and of one for each channel agree
+    add(two(chunky(2), 2).bits(3, &[8, 8]), 0);
+    // after the entries and the strip arrays' lengths, before the geometry and the number of strips
+    add(uneven().entry(WIDTH, 13, 1, 2), 2);
+    add(uneven().with(COUNTS, |e| e.count = 2), 2);
+    add(two(chunky(2), 2).bits(3, &[8, 16]).value(HEIGHT, 2), 8);
+    add(two(chunky(2), 2).bits(3, &[8, 8]).value(HEIGHT, 2), 3);
+    add(two(chunky(2), 2).bits(3, &[8, 16]).with(OFFSETS, |e| e.count = 2).with(COUNTS, |e| e.count = 2), 8);
+    add(two(chunky(2), 2).bits(3, &[8, 8]).with(OFFSETS, |e| e.count = 2).with(COUNTS, |e| e.count = 2), 2);
+    // the page's own SamplesPerPixel, also where it isn't the first page's
+    add(two(chunky(2), 3).bits(3, &[8, 8]), 8);
+    add(two(chunky(2), 3).bits(3, &[8, 8, 16]), 8);
+    add(two(chunky(2), 3).bits(3, &[8, 8, 8]), 3);
+    // before what the whole file is held to
+    add(uneven().value(COMPRESSION, 5).without(CZ), 8);
+    // in the directory's turn: after an earlier one's refusals, before a later one's
+    add(two(two(chunky(2), 2).value(WIDTH, 3), 2).bits(3, &[8, 16]), 3);
+    add(two(uneven(), 2).entry(WIDTH, 13, 1, 2), 8);
+    // a chain that comes back is 1, if no page in it is uneven
+    add(chunky(2).bits(3, &[8, 8]).back(0), 1);
+    add(two(chunky(2), 2).bits(3, &[8, 16]).back(0), 8);
+}
+
+// Values that the file's end cuts off.
+fn bits_in_turn(list: &mut Answered) {
+    let mut add = |f: Vec<u8>, number| list.push((f, number));
+    for (values, missing, number) in
+        [([8, 8, 8], 0, 0), ([8, 8, 8], 1, 1), ([8, 8, 8], 3, 1), ([8, 8, 8], 5, 1), ([8, 16, 8], 1, 8), ([8, 16, 8], 3, 1)]
+    {
+        add(chunky(3).bits_at_end(3, &values, missing), number);
+    }
+    // nothing is read of a wrong count, nor of a reduced page
+    add(chunky(3).bits_at_end(3, &[8; 5], 1), 8);
+    add(small().reduced().entry(BITS, 3, 1, 8).bits_at_end(3, &[8, 16, 8], 1), 0);
+    // the strip arrays come first, the geometry later
+    add(chunky(3).with(COUNTS, |e| e.count = 2).bits_at_end(3, &[8; 3], 1), 2);
+    let page = chunky(3).cz(Z, 2).page().value(SAMPLES, 3).value(COUNTS, 6);
+    add(page.value(HEIGHT, 2).bits_at_end(3, &[8; 3], 1), 1);
 }
 
 // A file that ends with this channel block, or with as much as there is of one.
@@ -979,5 +1110,6 @@ pub fn files() -> Vec<Vec<u8>> {
     times(&mut list);
     interleaved(&mut list);
     channel_blocks(&mut list);
+    list.extend(bits().into_iter().map(|(file, _)| file));
     list
 }

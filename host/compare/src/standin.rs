@@ -1,10 +1,11 @@
 // A stand-in for the library: it answers with the words of the C interface what a copy of the original answers. With the original
 // itself it shows that the comparison is sound; with an edited copy, that a broken rule is noticed. Pictures of interleaved channels, which
-// the original doesn't have, it reads by a way of its own (pixels.rs).
+// the original doesn't have, it reads by a way of its own (pixels.rs), and of the bits of several channels it has a rule of its own (uneven.rs).
 use crate::pixels::{Call, Pixels};
 use crate::twin::twin;
+use crate::uneven::{self, Bits};
 use crate::walk::walk;
-use other::probe::{self, Judged, Memory, Opened, Picture, Refused};
+use other::probe::{self, Judged, Memory, Opened, Picture, Refused, Sort};
 
 /// The words of a description and of each answer, as include/lsm.h counts them. Later versions add words at the end only.
 pub const DESCRIPTION_WORDS: usize = probe::WORDS;
@@ -28,6 +29,7 @@ pub enum Past {
 pub struct StandIn {
     pub past: Past,
     pub pixels: Pixels,
+    pub bits: Bits,
     memory: Memory,
     file: Vec<u8>,
     found: Option<Result<Opened, Refused>>,
@@ -96,9 +98,15 @@ impl StandIn {
             self.file.clear();
             self.file.extend(file);
             let w = walk(file);
-            let Judged { answer, .. } = probe::judged(&mut self.memory, file, |sort| twin(file, &w, sort.series, sort.interleaved));
-            let silent = || Err(Refused { row: [SILENT, 0, 0, 0, 0], text: "no twin".to_string() });
-            let mut found = answer.unwrap_or_else(silent);
+            let says = |number, text: &str| Err(Refused { row: [number, 0, 0, 0, 0], text: text.to_string() });
+            let mut found = match uneven::refusal(file, self.bits) {
+                Some(number) => says(number, "bits"),
+                None => {
+                    let twin = |sort: Sort| twin(file, &w, sort.series, sort.interleaved);
+                    let Judged { answer, .. } = probe::judged(&mut self.memory, file, twin);
+                    answer.unwrap_or_else(|| says(SILENT, "no twin"))
+                }
+            };
             self.visited = w.visited;
             if let Ok(o) = &mut found {
                 if o.note.is_some() {

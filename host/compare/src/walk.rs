@@ -58,9 +58,10 @@ fn follow(file: &[u8], w: &mut Walk) -> Option<()> {
 }
 
 // The tags of scalars that opening reads, and of strip arrays.
-const SCALARS: [u64; 8] = [SUBFILE, 256, 257, 258, 259, SAMPLES, PLANAR, 339];
+const SCALARS: [u64; 8] = [SUBFILE, 256, 257, BITS, 259, SAMPLES, PLANAR, 339];
 const ARRAYS: [u64; 2] = [273, 279];
 const SUBFILE: u64 = 254;
+pub const BITS: u64 = 258;
 pub const SAMPLES: u64 = 277;
 pub const PLANAR: u64 = 284;
 const CZ: u64 = 34412;
@@ -77,10 +78,15 @@ impl Walk {
         let mut at = number(file, 4, 4, self.big)? as usize;
         while at != 0 {
             list.push(at);
-            let count = number(file, at, 2, self.big)? as usize;
-            at = number(file, at + 2 + 12 * count, 4, self.big)? as usize;
+            at = self.next(file, at)?;
         }
         Some(list)
+    }
+
+    // Where the next directory stands; 0 for none.
+    pub fn next(&self, file: &[u8], directory: usize) -> Option<usize> {
+        let count = number(file, directory, 2, self.big)? as usize;
+        Some(number(file, directory + 2 + 12 * count, 4, self.big)? as usize)
     }
 
     // The places of a directory's entries.
@@ -90,7 +96,7 @@ impl Walk {
     }
 
     // Place and bytes of the values that are read of an entry: the first, or all of a strip array. And whether they stand in the entry itself.
-    fn values(&self, file: &[u8], entry: usize) -> Option<(usize, usize, bool)> {
+    pub fn values(&self, file: &[u8], entry: usize) -> Option<(usize, usize, bool)> {
         let field = |at: usize, n: usize| number(file, entry + at, n, self.big);
         let (tag, size, count) = (field(0, 2)?, size_of(field(2, 2)?), field(4, 4)?);
         let values = match tag {
@@ -127,18 +133,29 @@ impl Walk {
         Some(list)
     }
 
-    // Place and bytes of a tag's value in a directory: of several entries the last counts.
-    fn value(&self, file: &[u8], directory: usize, tag: u64) -> Option<(usize, usize)> {
+    // A tag's entry in a directory: of several the last counts.
+    pub fn entry(&self, file: &[u8], directory: usize, tag: u64) -> Option<usize> {
         let is = |&entry: &usize| number(file, entry, 2, self.big) == Some(tag);
-        let entry = self.entries(file, directory)?.rfind(is)?;
-        self.values(file, entry).map(|(at, n, _)| (at, n))
+        self.entries(file, directory)?.rfind(is)
+    }
+
+    // Place and bytes of a tag's value in a directory.
+    fn value(&self, file: &[u8], directory: usize, tag: u64) -> Option<(usize, usize)> {
+        self.values(file, self.entry(file, directory, tag)?).map(|(at, n, _)| (at, n))
+    }
+
+    // The value itself.
+    pub fn stated(&self, file: &[u8], directory: usize, tag: u64) -> Option<u64> {
+        self.value(file, directory, tag).and_then(|(at, n)| number(file, at, n, self.big))
+    }
+
+    pub fn is_full(&self, file: &[u8], directory: usize) -> bool {
+        self.stated(file, directory, SUBFILE).is_none_or(|n| n & 0b101 == 0)
     }
 
     // Places and bytes of a tag's values on the full pages that have the tag.
     pub fn of_full_pages(&self, file: &[u8], tag: u64) -> Option<Vec<(usize, usize)>> {
-        let reads = |directory, tag| self.value(file, directory, tag).and_then(|(at, n)| number(file, at, n, self.big));
-        let full = |&directory: &usize| reads(directory, SUBFILE).is_none_or(|n| n & 0b101 == 0);
-        let pages = self.directories(file)?.into_iter().filter(full);
+        let pages = self.directories(file)?.into_iter().filter(|&directory| self.is_full(file, directory));
         Some(pages.filter_map(|directory| self.value(file, directory, tag)).collect())
     }
 

@@ -17,6 +17,8 @@ pub enum Refusal {
     OutOfRange { scene: usize, t: usize, c: usize, z: usize },
     /// 7: lent memory is too short and nothing else is in the way. The strip table counts in words, samples and names in bytes.
     TooShort { needed: usize },
+    /// 8: BitsPerSample of a full page isn't one value, nor equal values, as many as there are channels.
+    UnevenBits,
 }
 
 impl Refusal {
@@ -35,6 +37,7 @@ impl Refusal {
             Refusal::SceneOutOfRange { scene, count } => [5, scene, count, 0, 0],
             Refusal::OutOfRange { scene, t, c, z } => [6, scene, t, c, z],
             Refusal::TooShort { needed } => [7, needed, 0, 0, 0],
+            Refusal::UnevenBits => [8, 0, 0, 0, 0],
         }
     }
 
@@ -49,6 +52,7 @@ impl Refusal {
             5 => Refusal::SceneOutOfRange { scene: a, count: b },
             6 => Refusal::OutOfRange { scene: a, t: b, c, z: d },
             7 => Refusal::TooShort { needed: a },
+            8 => Refusal::UnevenBits,
             _ => return None,
         };
         (refusal.row() == row).then_some(refusal)
@@ -65,6 +69,7 @@ impl fmt::Display for Refusal {
             Refusal::SceneOutOfRange { scene, count } => write!(f, "no scene {scene} among {count}"),
             Refusal::OutOfRange { scene, t, c, z } => write!(f, "nothing at scene {scene}, t {t}, c {c}, z {z}"),
             Refusal::TooShort { needed } => write!(f, "lent memory is too short: {needed} needed"),
+            Refusal::UnevenBits => write!(f, "the channels' bits are uneven, or of another number than the channels"),
         }
     }
 }

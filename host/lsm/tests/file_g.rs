@@ -162,6 +162,74 @@ fn interleaved_channels_open() {
     assert_eq!(lsm::channel(&file, &d, 3, &mut name), Err(Refusal::OutOfRange { scene: 0, t: 0, c: 3, z: 0 }));
 }
 
+const BITS: usize = 10 + 12 * 2;
+
+// G with so many BitsPerSample values, two of which it has room for.
+fn with_bits(count: u32, second: u16) -> Vec<u8> {
+    let mut f = g();
+    put32(&mut f, BITS + 4, count);
+    put16(&mut f, BITS + 10, second);
+    f
+}
+
+// One channel states one value. More are refused, equal or not, and so is any number of values past the file.
+#[test]
+fn bits_of_one_channel() {
+    assert_eq!(number(&with_bits(1, 9)), 0);
+    assert_eq!(number(&with_bits(0, 8)), 2);
+    for file in [with_bits(2, 8), with_bits(2, 9)] {
+        let mut table = [77; 4];
+        assert_eq!(lsm::open(&file, &mut table), Err(Refusal::UnevenBits));
+        assert_eq!(table, [77; 4]);
+        assert_eq!(lsm::open(&file, &mut []), Err(Refusal::UnevenBits));
+    }
+    // every word behind the number is 0
+    let mut answer = [77; lsm::c::OPEN_WORDS];
+    assert_eq!(lsm::c::open(&with_bits(2, 8), &mut [77; 4], &mut answer), 8);
+    assert_eq!((answer[0], answer[1..].iter().all(|&word| word == 0)), (8, true));
+}
+
+// Where BitsPerSample stands in the directory that `interleaved` moves to G's end.
+const MOVED_BITS: usize = 118 + 2 + 12 * 2;
+
+// Three channels with these BitsPerSample values at the file's end, of which so many bytes are missing.
+fn three_bits(values: [u16; 3], missing: usize) -> Vec<u8> {
+    let mut f = interleaved();
+    let place = f.len();
+    put32(&mut f, MOVED_BITS + 4, 3);
+    put32(&mut f, MOVED_BITS + 8, place as u32);
+    f.extend(values.iter().flat_map(|n| n.to_le_bytes()));
+    f.truncate(place + 6 - missing);
+    f
+}
+
+// Further values are read in turn, and each is compared before the next.
+#[test]
+fn bits_of_three_channels() {
+    let said = |values, missing| {
+        let mut table = [77; 4];
+        let opened = lsm::open(&three_bits(values, missing), &mut table);
+        assert!(opened.is_ok() || table == [77; 4]);
+        opened.map(|o| (o.description.kind, o.description.c))
+    };
+    assert_eq!(said([8, 8, 8], 0), Ok((Kind::U8, 3)));
+    assert_eq!(said([16, 16, 16], 0), Ok((Kind::U16, 3)));
+    assert_eq!(said([8, 8, 16], 0), Err(Refusal::UnevenBits));
+    assert_eq!(said([8, 16, 8], 0), Err(Refusal::UnevenBits));
+    assert_eq!(said([16, 8, 8], 0), Err(Refusal::UnevenBits));
+    for missing in 1..6 {
+        assert_eq!(said([8, 8, 8], missing), Err(Refusal::Parse));
+    }
+    for missing in 1..3 {
+        assert_eq!(said([8, 16, 8], missing), Err(Refusal::UnevenBits));
+    }
+    // two values for three channels, though they are equal and in the file
+    let mut two = interleaved();
+    put32(&mut two, MOVED_BITS + 4, 2);
+    put16(&mut two, MOVED_BITS + 10, 8);
+    assert_eq!(number(&two), 8);
+}
+
 // The library looks at the flag before anything else.
 #[test]
 fn a_flag_above_1_is_no_description() {

@@ -78,10 +78,11 @@ fn refusals_go_to_rows_and_back() {
         [5, 9, 2, 0, 0],
         [6, 1, 2, 3, 4],
         [7, 12, 0, 0, 0],
+        [8, 0, 0, 0, 0],
     ] {
         assert_eq!(Refusal::from_row(row).unwrap().row(), row);
     }
-    for row in [[0, 0, 0, 0, 0], [8, 0, 0, 0, 0], [1, 1, 0, 0, 0], [7, 1, 1, 0, 0]] {
+    for row in [[0, 0, 0, 0, 0], [9, 0, 0, 0, 0], [1, 1, 0, 0, 0], [7, 1, 1, 0, 0], [8, 1, 0, 0, 0], [8, 0, 0, 0, 1]] {
         assert_eq!(Refusal::from_row(row), None);
     }
 }
