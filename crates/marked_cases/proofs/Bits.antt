@@ -128,8 +128,10 @@ entries_whole :
     -- "after a directory's two strip arrays are found equal in length": first 2, also where a further value is past the file
     × (seen (two_counts (short 2 2 16 8) 2) ≡ refused (2 ∷ []))
     × (seen (two_counts (three_at 142) 3 ++ 8 ∷ 0 ∷ 8 ∷ 0 ∷ []) ≡ refused (2 ∷ []))
+    -- and after every entry: a width of type 13 behind the uneven bits
+    × (seen (front 1 2 (values 0 0 0) ++ of_entries 8 (page 1 (short 2 2 8 9) 2 ++ cz_entry ++ 0 ∷ 1 ∷ 13 ∷ 0 ∷ 1 ∷ 0 ∷ 0 ∷ 0 ∷ 1 ∷ 0 ∷ 0 ∷ 0 ∷ []) 0) ≡ refused (2 ∷ []))
 unfolding open_file lend read describe_walk agreement layout_for describe cz_info extents voxels channel_block shots layout scenes pages_expected word tiff_header walk chain join agrees directory ends entries entry scalar scalar_values array array_values entry_values value_at values_at all_equal value_place type_size integer_size header i32_at signed32 number_at part_at bind
-entries_whole = (refl, refl, refl, refl, refl, refl)
+entries_whole = (refl, refl, refl, refl, refl, refl, refl)
 
 -- ---- a second directory
 
@@ -153,6 +155,11 @@ second_directories :
     × (seen (then_page 1 2 (short 2 2 8 8) 2) ≡ refused (3 ∷ []))
     × (seen (then_page 1 1 (short 2 2 8 8) 3) ≡ refused (8 ∷ []))
     × (seen (then_page 1 1 (short 2 1 8 0) 3) ≡ refused (3 ∷ []))
+    -- in its directory's turn: before a second directory past the file, and before what the first page is held to at the end, as Compression 5
+    × (seen (front 1 2 (values 0 0 0) ++ of_entries 7 (page 1 (short 2 2 8 9) 2 ++ cz_entry) 250) ≡ refused (8 ∷ []))
+    × (seen (front 1 2 (values 0 0 0) ++ of_entries 7 (page 1 (short 2 2 8 8) 2 ++ cz_entry) 250) ≡ refused (1 ∷ []))
+    × (seen (after 8 (short 3 1 5 0) 2 (values 0 0 0) (short 2 2 8 9)) ≡ refused (8 ∷ []))
+    × (seen (after 8 (short 3 1 5 0) 2 (values 0 0 0) (short 2 2 8 8)) ≡ refused (3 ∷ []))
     -- even bits, and others than the first page's
     × (seen (then_page 1 1 (short 2 2 16 16) 2) ≡ refused (3 ∷ []))
     -- the count is no geometry: a page with one value and one with two agree
@@ -163,7 +170,7 @@ second_directories :
     × (seen (then_reduced 0 0 0 (three_at 232) ++ 8 ∷ 0 ∷ 9 ∷ 0 ∷ []) ≡ accepted (2, 2))
     × (seen (then_reduced 0 0 0 (three_at 232)) ≡ refused (1 ∷ []))
 unfolding open_file lend read describe_walk agreement layout_for describe cz_info extents voxels channel_block shots layout scenes pages_expected word tiff_header walk chain join agrees directory ends entries entry scalar scalar_values array array_values entry_values value_at values_at all_equal value_place type_size integer_size header i32_at signed32 number_at part_at bind
-second_directories = (refl, refl, refl, refl, refl, refl, refl, refl, refl, refl)
+second_directories = (refl, refl, refl, refl, refl, refl, refl, refl, refl, refl, refl, refl, refl, refl)
 
 -- ---- the list
 
