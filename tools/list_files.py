@@ -149,6 +149,17 @@ file(
     'accepted', 'dims 1 2 1 1 2', 'kind 1', f'pixel {bits(1e-7)} {bits(3e-7)} -', 'scenes 1', 'image', 'channels 2', 'abcdef =',
     '000000 =78', 'notes 1', 'too-large 1.02e4',
 )
+# the notes of the least and of the greatest f32 above 0
+file(
+    'least-step', scenes('I', (1e-7, 1e-7, 2.0**-149 / 1e6), 1, 1, [(1, 2, 3)] * 2, [b'', b'']),
+    'accepted', 'dims 1 2 1 1 2', 'kind 1', f'pixel {bits(1e-7)} {bits(1e-7)} -', 'scenes 1', 'image', 'channels 2', '010203 =', '010203 =',
+    'notes 1', 'placeholder 1.4e-45',
+)
+file(
+    'greatest-step', scenes('I', (1e-7, 1e-7, (2 - 2.0**-23) * 2.0**127 / 1e6), 1, 1, [(1, 2, 3)] * 2, [b'', b'']),
+    'accepted', 'dims 1 2 1 1 2', 'kind 1', f'pixel {bits(1e-7)} {bits(1e-7)} -', 'scenes 1', 'image', 'channels 2', '010203 =', '010203 =',
+    'notes 1', 'too-large 3.4e38',
+)
 file(
     'long-names', scenes('I', (1e-6, 1e-6, 1e-6), 1, 2, [(9, 9, 9)] * 3, [b'\xff' * 1024, b'n' * 1025, b'end']),
     'accepted', 'dims 1 3 1 1 2', 'kind 1', f'pixel {bits(1e-6)} {bits(1e-6)} {bits(1e-6)}', 'scenes 2', 'image #1', 'image #2', 'channels 3',

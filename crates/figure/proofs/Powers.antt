@@ -2,7 +2,7 @@
 use Prim.Native.Nat.{ℕ, zero, suc, ◌+◌, ◌-◌, ◌*◌, ◌/◌, ◌%◌, ◌^◌, ◌≤◌, ◌<◌, compare, Ordering}
 use mathlib.Core.Path.{◌≡◌, refl, sym, ap, ◌∙◌}
 use mathlib.Core.Bool.{Bool, true, false, true≢false}
-use native.Mathlib.Nat.{div-eq-sub-div, mod-eq-sub-mod, div-eq_of_lt, mod-eq_of_lt, div-lt_iff_lt-mul, div-add-mod', mod-lt, add-mul, mul_comm, mul_assoc, mul_left_comm, mul-one, pow-suc, mul-pos, mul-le-mul_right, mul-lt-mul_of_pos_left, lt_of_mul-lt-mul_right, lt_of_lt_of_le, lt_trans, le_trans}
+use native.Mathlib.Nat.{div-eq-sub-div, mod-eq-sub-mod, div-eq_of_lt, mod-eq_of_lt, div-lt_iff_lt-mul, div-add-mod', mod-lt, add-mul, mul_comm, mul_assoc, mul-one, pow-suc, mul-pos, mul-le-mul_right, mul-lt-mul_of_pos_left, lt_of_mul-lt-mul_right, lt_of_lt_of_le, lt_trans, le_trans}
 use native.Mathlib.Numerals.{add-one}
 use native.Mathlib.Omega.{arith}
 use lib.Arith.{digits_div, digits_mod}
@@ -14,6 +14,17 @@ use lib.IntN.{pos, ◌-ℤ◌}
 use Rattle.lsm_format.specs.Calibration.{tens_above, tens_below, hundredfold, figure_text, figure_by}
 use Rattle.figure.specs.Wide.{room, Scaled, Near, figure_of}
 
+-- ---- a power and its factor
+
+-- A factor before the power is one in it.
+factor_in : (b a n : ℕ) → b * a * b ^ n ≡ a * b ^ suc n
+factor_in b a n = ap (λ (z : ℕ). z * b ^ n) (mul_comm b a) ∙ mul_assoc a b (b ^ n) ∙ ap (λ (z : ℕ). a * z) (mul_comm b (b ^ n) ∙ sym (pow-suc b n))
+
+-- A number with its power, and the factor once more.
+pub once_more : (b n i v r : ℕ) → v ≡ n * b ^ i → r ≡ b * v → r ≡ n * b ^ (i + 1)
+once_more b n i v r h e =
+    e ∙ ap (λ (z : ℕ). b * z) h ∙ sym (mul_assoc b n (b ^ i)) ∙ factor_in b n i ∙ ap (λ (z : ℕ). n * b ^ z) (sym (add-one i))
+
 -- ---- a mantissa of 24 bits, doubled
 
 -- It is below 2 ^ 277.
@@ -24,15 +35,6 @@ doubled_small n k v hn hk e = rw e (lt_of_lt_of_le (shl_lt 24 k hn) (pow_mono {i
 pub doubled_fits : (n k v : ℕ) → n < 2 ^ 24 → k < 254 → v ≡ n * 2 ^ k → 10 * v < room
 unfolding room
 doubled_fits n k v hn hk e = lt_trans (mul-lt-mul_of_pos_left {k = 10} (doubled_small n k v hn hk e) (lit< tt)) (lit< tt)
-
--- Doubled once more.
-pub doubled_on : (n i v r : ℕ) → v ≡ n * 2 ^ i → r ≡ 2 * v → r ≡ n * 2 ^ (i + 1)
-doubled_on n i v r h e =
-    e ∙ ap (λ (z : ℕ). 2 * z) h ∙ mul_left_comm 2 n (2 ^ i) ∙ ap (λ (z : ℕ). n * z) (mul_comm 2 (2 ^ i) ∙ sym (pow-suc 2 i) ∙ ap (λ (z : ℕ). 2 ^ z) (sym (add-one i)))
-
--- A ten before the power is one in it.
-ten_more : (a n : ℕ) → 10 * a * 10 ^ n ≡ a * 10 ^ suc n
-ten_more a n = ap (λ (z : ℕ). z * 10 ^ n) (mul_comm 10 a) ∙ mul_assoc a 10 (10 ^ n) ∙ ap (λ (z : ℕ). a * z) (mul_comm 10 (10 ^ n) ∙ sym (pow-suc 10 n))
 
 -- ---- one question of `tens_above` and of `tens_below`
 
@@ -58,56 +60,46 @@ below_no : (n num den : ℕ) → leb den num ≡ false → tens_below (suc n) nu
 unfolding tens_below
 below_no n num den h = ap (λ (b : Bool). elim b [ true ↦ 0 | false ↦ suc (tens_below n (10 * num) den) ]) h
 
--- ---- what the code's questions find
+-- ---- the loops: what was counted and what is still to be asked make up what the definition counts
 
--- No ten is multiplied in.
-scaled_none : (wanted n left : ℕ) → wanted ≡ 0 → Scaled wanted n left n 0
-scaled_none wanted n left h = record { right = sym h; few = omega arith; scaled = sym (mul-one n) }
+-- One question less is left.
+fewer : (left count : ℕ) → count < left → left - count ≡ suc (left - (count + 1))
+fewer left count h = omega arith
 
--- One ten, and then count more.
-scaled_more : (wanted more n m left r count : ℕ) → wanted ≡ suc more → m ≡ 10 * n → Scaled more m left r count → Scaled wanted n (suc left) r (count + 1)
-scaled_more wanted more n m left r count h e s = record {
-  right = omega (arith, s.right);
-  few = omega (arith, s.few);
-  scaled =
-      s.scaled ∙ ap (λ (z : ℕ). z * 10 ^ count) e ∙ ten_more n count ∙ ap (λ (z : ℕ). n * 10 ^ z) (sym (add-one count));
-}
+-- num is at least ten times den.
+pub above_go : (wanted left count num den : ℕ) → count < left → leb (10 * den) num ≡ true
+    → wanted ≡ count + tens_above (left - count) num den → wanted ≡ count + 1 + tens_above (left - (count + 1)) num (10 * den)
+above_go wanted left count num den l h e =
+    let p = ap (λ (n : ℕ). tens_above n num den) (fewer left count l) ∙ above_yes (left - (count + 1)) num den h in omega (arith, e, p)
+
+-- It is not.
+pub above_stop : (wanted left count num den : ℕ) → leb (10 * den) num ≡ false → wanted ≡ count + tens_above (left - count) num den → count ≡ wanted
+above_stop wanted left count num den h e = let p = above_no (left - count) num den h in omega (arith, e, p)
 
 -- No question is left.
-pub above_zero : (num den left : ℕ) → left ≡ 0 → Scaled (tens_above left num den) den left den 0
+pub above_end : (wanted left count num den : ℕ) → count ≡ left → wanted ≡ count + tens_above (left - count) num den → left ≡ wanted
 unfolding tens_above
-above_zero num den left h = scaled_none _ den left (ap (λ (n : ℕ). tens_above n num den) h)
+above_end wanted left count num den h e =
+    let z : left - count ≡ 0 = omega arith in let p = ap (λ (n : ℕ). tens_above n num den) z in omega (arith, e, p)
 
--- num is below ten times den.
-pub above_stop : (num den left next : ℕ) → next ≡ 10 * den → leb next num ≡ false → Scaled (tens_above left num den) den left den 0
-above_stop num den left next e h = scaled_none _ den left (above_no left num den (rw e at h))
+-- num is below den.
+pub below_go : (wanted left count num den : ℕ) → count < left → leb den num ≡ false
+    → wanted ≡ count + tens_below (left - count) num den → wanted ≡ count + 1 + tens_below (left - (count + 1)) (10 * num) den
+below_go wanted left count num den l h e =
+    let p = ap (λ (n : ℕ). tens_below n num den) (fewer left count l) ∙ below_no (left - (count + 1)) num den h in omega (arith, e, p)
 
--- num is at least ten times den, and the rest was found from there.
-pub above_go : (num den left r count : ℕ) → (left ≡ 0 → ⊥) → leb (10 * den) num ≡ true → count ≡ tens_above (left - 1) num (10 * den)
-    → count ≤ left - 1 → r ≡ 10 * den * 10 ^ count → Scaled (tens_above left num den) den left r (count + 1)
-above_go num den zero r count k h e f s = absurd (k refl)
-above_go num den (suc n) r count k h e f s =
-    let p : suc n - 1 ≡ n = omega arith in
-    scaled_more _ (tens_above n num (10 * den)) den (10 * den) n r count (above_yes n num den h) refl
-    (record { right = rw p at e; few = rw p at f; scaled = s })
+-- It is at least den.
+pub below_stop : (wanted left count num den : ℕ) → leb den num ≡ true → wanted ≡ count + tens_below (left - count) num den → count ≡ wanted
+below_stop wanted left count num den h e = let p = below_yes (left - count) num den h in omega (arith, e, p)
 
 -- No question is left.
-pub below_zero : (num den left : ℕ) → left ≡ 0 → Scaled (tens_below left num den) num left num 0
+pub below_end : (wanted left count num den : ℕ) → count ≡ left → wanted ≡ count + tens_below (left - count) num den → left ≡ wanted
 unfolding tens_below
-below_zero num den left h = scaled_none _ num left (ap (λ (n : ℕ). tens_below n num den) h)
+below_end wanted left count num den h e =
+    let z : left - count ≡ 0 = omega arith in let p = ap (λ (n : ℕ). tens_below n num den) z in omega (arith, e, p)
 
--- num is at least den.
-pub below_stop : (num den left : ℕ) → leb den num ≡ true → Scaled (tens_below left num den) num left num 0
-below_stop num den left h = scaled_none _ num left (below_yes left num den h)
-
--- num is below den, and the rest was found from ten times num.
-pub below_go : (num den left r count : ℕ) → (left ≡ 0 → ⊥) → leb den num ≡ false → count ≡ tens_below (left - 1) (10 * num) den
-    → count ≤ left - 1 → r ≡ 10 * num * 10 ^ count → Scaled (tens_below left num den) num left r (count + 1)
-below_go num den zero r count k h e f s = absurd (k refl)
-below_go num den (suc n) r count k h e f s =
-    let p : suc n - 1 ≡ n = omega arith in
-    scaled_more _ (tens_below n (10 * num) den) num (10 * num) n r count (below_no n num den h) refl
-    (record { right = rw p at e; few = rw p at f; scaled = s })
+-- What the two loops cite.
+pub ruleset tens = (once_more, above_go, above_stop, above_end, below_go, below_stop, below_end)
 
 -- ---- a digit by repeated subtraction
 
@@ -194,7 +186,7 @@ unfolding tens_above
 above_le zero num den h = omega (arith, mul-one den)
 above_le (suc n) num den h =
     asked (leb (10 * den) num)
-    (λ e. rw (above_yes n num den e, ← ten_more den (tens_above n num (10 * den))) (above_le n num (10 * den) (leb-true (10 * den) num e)))
+    (λ e. rw (above_yes n num den e, ← factor_in 10 den (tens_above n num (10 * den))) (above_le n num (10 * den) (leb-true (10 * den) num e)))
     (λ e. rw (above_no (suc n) num den e) (omega (arith, mul-one den)))
 
 -- Ten times as much is larger, unless the questions ran out.
@@ -203,7 +195,7 @@ unfolding tens_above
 above_lt zero num den h = omega (arith, mul-one den)
 above_lt (suc n) num den h =
     asked (leb (10 * den) num)
-    (λ e. rw (above_yes n num den e, ← ten_more den (tens_above n num (10 * den))) (above_lt n num (10 * den) (rw (← ten_more den n) at h)))
+    (λ e. rw (above_yes n num den e, ← factor_in 10 den (tens_above n num (10 * den))) (above_lt n num (10 * den) (rw (← factor_in 10 den n) at h)))
     (λ e. rw (above_no (suc n) num den e) (let l : num < 10 * den = leb-false (10 * den) num e in omega (arith, mul-one den)))
 
 -- num with its tens is below ten times den.
@@ -213,7 +205,7 @@ below_lt zero num den h = omega (arith, mul-one num)
 below_lt (suc n) num den h =
     asked (leb den num)
     (λ e. rw (below_yes (suc n) num den e) (omega (arith, mul-one num)))
-    (λ e. rw (below_no n num den e, ← ten_more num (tens_below n (10 * num) den)) (below_lt n (10 * num) den (let l : num < den = leb-false den num e in omega arith)))
+    (λ e. rw (below_no n num den e, ← factor_in 10 num (tens_below n (10 * num) den)) (below_lt n (10 * num) den (let l : num < den = leb-false den num e in omega arith)))
 
 -- And it is at least den, unless the questions ran out.
 below_le : (n num den : ℕ) → den ≤ num * 10 ^ n → den ≤ num * 10 ^ tens_below n num den
@@ -222,7 +214,7 @@ below_le zero num den h = h
 below_le (suc n) num den h =
     asked (leb den num)
     (λ e. rw (below_yes (suc n) num den e) (let l : den ≤ num = leb-true den num e in omega (arith, mul-one num)))
-    (λ e. rw (below_no n num den e, ← ten_more num (tens_below n (10 * num) den)) (below_le n (10 * num) den (rw (← ten_more num n) at h)))
+    (λ e. rw (below_no n num den e, ← factor_in 10 num (tens_below n (10 * num) den)) (below_le n (10 * num) den (rw (← factor_in 10 num n) at h)))
 
 -- The fraction with its tens is from 1 to below 10.
 pub between : (num den top a bottom b : ℕ) → Near num den → Scaled (tens_above 64 num den) den 64 bottom a → Scaled (tens_below 64 num den) num 64 top b

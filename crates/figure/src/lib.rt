@@ -26,45 +26,41 @@ struct Tens {
 // The two functions below stay two: one looks at the number after the ten is multiplied in, the other before it.
 
 // den, with a ten multiplied in while num is at least ten times as large; asked at most `left` times.
-#[tactic(auto, using(crate::proofs::Powers::above_zero, crate::proofs::Powers::above_stop, crate::proofs::Powers::above_go))]
+#[tactic(auto, using(crate::proofs::Powers::tens))]
 fn above(num: Wide, den: Wide, left: u32) -> Tens
     requires { (10 * number_of num < room) × (10 * number_of den < room) }
     ensures { Scaled (tens_above left (number_of num) (number_of den)) (number_of den) left (number_of result.number) result.count }
 {
-    let stop = Tens {
-        number: den,
-        count: 0,
-    };
-    if left == 0 {
-        return stop;
+    let mut number = den;
+    for count in 0..left {
+        let next = number.times(10);
+        if !num.at_least(next) {
+            return Tens { number, count };
+        }
+        number = next;
     }
-    let next = den.times(10);
-    if num.at_least(next) {
-        let more = above(num, next, left - 1);
-        return Tens {
-            count: more.count + 1,
-            ..more
-        };
+    Tens {
+        number,
+        count: left,
     }
-    stop
 }
 
 // num, with a ten multiplied in while it is below den; asked at most `left` times.
-#[tactic(auto, using(crate::proofs::Powers::below_zero, crate::proofs::Powers::below_stop, crate::proofs::Powers::below_go))]
+#[tactic(auto, using(crate::proofs::Powers::tens))]
 fn below(num: Wide, den: Wide, left: u32) -> Tens
     requires { 10 * number_of den < room }
     ensures { Scaled (tens_below left (number_of num) (number_of den)) (number_of num) left (number_of result.number) result.count }
 {
-    if left == 0 || num.at_least(den) {
-        return Tens {
-            number: num,
-            count: 0,
-        };
+    let mut number = num;
+    for count in 0..left {
+        if number.at_least(den) {
+            return Tens { number, count };
+        }
+        number = number.times(10);
     }
-    let more = below(num.times(10), den, left - 1);
     Tens {
-        count: more.count + 1,
-        ..more
+        number,
+        count: left,
     }
 }
 

@@ -58,7 +58,7 @@ impl Wide {
     }
 
     // Doubled `k` times: a mantissa's own power of two.
-    #[tactic(auto, using(crate::proofs::Powers::doubled_fits, crate::proofs::Powers::doubled_on))]
+    #[tactic(auto, using(crate::proofs::Powers::doubled_fits, crate::proofs::Powers::once_more))]
     pub(crate) fn doubled(self, k: u32) -> Wide
         requires { (number_of self < 2 ^ 24) × (k < 254) }
         ensures { number_of result ≡ number_of self * 2 ^ k }
