@@ -18,9 +18,11 @@ The sources are read as text and no types are worked out. So a call may be drawn
   not called there. It is none where a variable of that name is bound around it.
 - A method is each of that name that can be seen from there. `self`, and a parameter or field whose type is declared, tell of which type.
 - Who is handed a closure or a function calls what is called in it, and so does who hands it over.
+- Of a type parameter a trait's method is the one of each impl, of crates above too.
 - `next` and `size_hint` are called by who names their type or takes any iterator; `default` and `from` where they are named, or `into` is.
 - A derived `default` calls those of the fields' types.
-- An impl of a further trait with methods is refused until TRAITS says how they are called.
+- What would hide a call is refused, until it is known here: an impl of a further trait of the library (TRAITS), a type that can hold what can be
+  called, a function that answers it, a function or a `use` inside a function.
 
 The library calls functions of these crates only so, and so does what is derived. Contracts and ghost code call nothing.
 """
@@ -33,7 +35,7 @@ from pathlib import Path
 
 TOKEN = re.compile(r'''(?xs)
     (?P<blank> \s+ | //[^\n]* | /\*.*?\*/ )
-    | b?r(?P<hash>\#*)".*?"(?P=hash) | b?"(?:\\.|[^"\\])*" | b?'(?:\\[^']+|[^'\\])' | '\w+
+    | b?r(?P<hash>\#*)".*?"(?P=hash) | b?"(?:\\.|[^"\\])*" | b?'(?:\\.[^']*|[^'\\])' | '\w+
     | [A-Za-z_]\w* | \d\w*(?:\.\d\w*)? | :: | -> | => | \.\.=? | && | \|\| | .''')
 WORD = re.compile(r'[A-Za-z_]\w*')
 CLOSES = {'(': ')', '[': ']', '{': '}'}
@@ -89,6 +91,10 @@ class Source:
             i += 1
         return i
 
+    def any_types(self, i):
+        """Whether `<..>` at i has a type among its parameters."""
+        return any(self.tokens[start] != 'const' and self.tokens[start][:1] != "'" for start, _ in self.parts(i + 1, self.generics(i) - 1))
+
     def parts(self, i, stop):
         """The ranges between the commas of a list of parameters or fields."""
         while i < stop:
@@ -109,7 +115,7 @@ class Function:
         self.name = '::'.join(self.path)
         words = source.tokens[slice(*head)]
         self.constant = words[0] != 'fn'
-        self.takes_any = generic or words[2:3] == ['<'] or bool({'impl', 'dyn', 'fn'} & set(words[2:]))  # also what can be called
+        self.takes_any = generic or source.any_types(head[0] + 2) or bool({'impl', 'dyn', 'fn'} & set(words[2:]))  # also what can be called
         self.calls = {}  # what is called, and where first
 
     def calls_on(self):
@@ -169,6 +175,8 @@ class Crates:
                 self.traits.add(s.path + (name,))
             return s.close[s.find(i, stop, '{')] + 1
         if kind in ('struct', 'enum'):
+            if s.any_types(i + 2):
+                raise s.unknown(i)
             body = s.find(s.generics(i + 2), stop, '{', '(', ';')
             self.types[s.path + (name,)] = self.fields(s, body) if kind == 'struct' and t[body] in CLOSES else {}
             return s.close[body] + 1 if t[body] == '{' else end + 1
@@ -193,13 +201,15 @@ class Crates:
             raise Unknown(f'{s.at(i)}: how the methods of {trait} are called isn\'t known here')
         at = middle + 1 if trait else at
         owner = self.type_at(s, at, brace) or s.path + (s.tokens[at],)
-        self.items(s, brace + 1, s.close[brace], (owner, trait, s.tokens[i + 1] == '<'))
+        self.items(s, brace + 1, s.close[brace], (owner, trait, s.tokens[i] == 'trait' or s.any_types(i + 1)))
 
     def function(self, s, i, block, public):
         """Reads a function; its contract calls nothing."""
         t, j = s.tokens, s.close[s.find(s.generics(i + 2), s.end, '(')] + 1
         j = s.find(j, s.end, '{', ';', 'requires', 'ensures')
-        head = (i, j)
+        head, answer = (i, j), s.find(i, j, '->')
+        if {'impl', 'dyn', 'fn'} & set(t[answer:j]):
+            raise s.unknown(answer)
         while t[j] in ('requires', 'ensures'):
             j = s.close[s.find(j, s.end, '{')] + 1
         body = (j, s.close[j]) if t[j] == '{' else (j, j)
@@ -298,9 +308,15 @@ class Crates:
         return [f for kind in kinds if kind for f in self.made_by(kind + path[-1:], (*above, path))]
 
     def methods_seen(self, name, function):
-        """The methods of a name that can be seen from a function."""
+        """The methods of a name that a function may call: those that it sees, and a trait's of whichever type it is called for."""
         crate = function.path[0]
-        return [m for m in self.methods.get(name, ()) if m.path[0] == crate or (m.public or m.trait) and m.path[0] in self.below(crate)]
+        return [m for m in self.methods.get(name, ()) if m.path[0] == crate or (m.public or m.trait) and m.path[0] in self.below(crate)
+                or m.trait and function.takes_any]
+
+    def into_types(self, crate):
+        """What a type parameter can be turned into, as by `type_at`: what the bounds of a crate and those below it name."""
+        sources = [s for path, s in self.sources.items() if path[0] in self.below(crate)]
+        return {self.type_at(s, i + 2, s.end) for s in sources for i in range(s.end) if s.tokens[i:i + 2] == ['Into', '<']}
 
 
 class Calls:
@@ -425,7 +441,7 @@ class Calls:
         if len(path) == 1 and (behind == ':' or behind != '(' and self.variable(path[0], k)):
             return []
         if path[-1] in ('Iterator', 'IntoIterator'):
-            return [f for f in crates.iterators if f.path[0] in crates.below(self.f.path[0])]
+            return crates.iterators
         found = crates.meaning(self.s, path, self.f.owner)
         if found:
             named = (found, found[:-1]) if found != self.f.owner else ()
@@ -435,9 +451,15 @@ class Calls:
     def method(self, name, told):
         """The methods that a name means behind a value or a type, of which it is told as by `type_at`."""
         crates = self.crates
-        meant = [m for m in crates.methods_seen(name, self.f)
-                 if told is None or m.owner in crates.traits or (m.owner == told if told else m.owner not in crates.types)]
-        return meant + [m for names in TRAITS.values() if name in names for m in crates.methods_seen(names[name], self.f) if m.trait]
+
+        def of(kind, methods):
+            return [m for m in methods if kind is None or m.owner in crates.traits or (m.owner == kind if kind else m.owner not in crates.types)]
+
+        meant = of(told, crates.methods_seen(name, self.f))
+        for other in (names[name] for names in TRAITS.values() if name in names):
+            kinds = crates.into_types(self.f.path[0]) if name == 'into' and self.f.takes_any else {None}
+            meant += [m for kind in kinds for m in of(kind, crates.methods_seen(other, self.f)) if m.trait]
+        return meant
 
     def receiver(self, k):
         """The type of the value that ends at k, as by `type_at`: of a variable, or of a field of one."""

@@ -13,9 +13,11 @@ sys.dont_write_bytecode = True
 from call_tree import Crates, Unknown, calls_of, cycles
 
 FIGURE, WIDE, VALUES, DIRECTORY = 'figure/src/lib.rt', 'figure/src/wide.rt', 'lsm_values/src/lib.rt', 'lsm_directory/src/lib.rt'
-OPEN, HEADER, REPLAY = 'lsm_reader/src/lib.rt', 'lsm_reader/src/header.rt', 'lsm_replay/src/main.rt'
+OPEN, HEADER, REPLAY, GROUND = 'lsm_reader/src/lib.rt', 'lsm_reader/src/header.rt', 'lsm_replay/src/main.rt', 'lsm_replay/src/ground.rt'
 SAME, REPORT, IN_C, UTF8 = 'vectors/src/same.rt', 'vectors/src/report.rt', 'lsm_replay_pictures/src/in_c.rt', 'utf8/src/lib.rt'
 REFUSED = 'not read'
+# A type of a crate above `vectors`, with an impl for which that calls a method.
+MINE = 'use vectors::asked::{coordinate, rectangle};\nuse vectors::same::{Lent, kept};\n\npub struct Mine;\n\nimpl '
 
 # What a case shows; in which files what is put for what; the cycle.
 CASES = [
@@ -33,6 +35,13 @@ CASES = [
                                     'pub trait Lent: Copy + Into<usize> {\n    fn is(self) -> bool {\n        same_answer(&[], 0, &[], 0)\n    }\n'),
                                    (SAME, 'words.first() == Some(&number)', 'number.is()')],
      'vectors::same::same_answer vectors::same::Lent::is'),
+    ('a method of a type of a crate above', [(SAME, 'let v: usize = v.into();', 'let v = v.is();'),
+                                             (GROUND, 'use vectors::asked::{coordinate, rectangle};',
+                                              MINE + 'Lent for Mine {\n    fn is(self) -> usize {\n        usize::from(kept(&[], self))\n    }\n}')],
+     'vectors::same::kept lsm_replay::ground::Mine::is'),
+    ('a conversion of a type of a crate above', [(GROUND, 'use vectors::asked::{coordinate, rectangle};',
+                                                  MINE + 'From<Mine> for usize {\n    fn from(m: Mine) -> usize {\n        kept(&[], m);\n        0\n    }\n}')],
+     'vectors::same::kept lsm_replay::ground::usize::from'),
     ('a function that is handed to the library', [(VALUES, '_ => 0,', '_ => [ty].map(tiff_type_size)[0],')], 'lsm_values::tiff_type_size'),
     ('a function that is handed to another', [(IN_C, 'answered(said, out, |out', 'of_handed(said, file, region_agrees) && answered(said, out, |out')],
      'lsm_replay_pictures::in_c::plane_agrees lsm_replay_pictures::in_c::of_handed'),
@@ -56,6 +65,8 @@ CASES = [
                                            'let hundreds = three_digits(num, den);\n    let three = hundreds;')], None),
     ('a name that is no way back', [(VALUES, 'Width::One => 1,', 'Width::One => [0].map(tiff_type_size)[0],')], None),
     ('a trait that isn\'t known', [(WIDE, 'impl Wide {', 'impl PartialEq for Wide {')], REFUSED),
+    ('a type that can hold what can be called', [(FIGURE, 'struct Digits {', 'struct Digits<F> {')], REFUSED),
+    ('a function that answers what can be called', [(FIGURE, 'fn letter(n: u32) -> u8', 'fn letter(n: u32) -> impl Fn() -> u8')], REFUSED),
     ('a function in a function', [(FIGURE, 'let q = three.digits;', 'fn digits() {}\n    let q = three.digits;')], REFUSED),
 ]
 
