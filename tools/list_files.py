@@ -52,6 +52,25 @@ def g(order='I', size=28, t=1):
     return head.ljust(88, b'\0') + cz + bytes([7, 9])
 
 
+def converted(data, below=None):
+    """The file with its entries of types 3 and 4 in types 8 and 9, as a museum's converter writes them; of one tag all values are -1."""
+    o = Order(data[:1].decode())
+    data = bytearray(data)
+    place = struct.unpack_from(o.sign + 'I', data, 4)[0]
+    while place:
+        number = struct.unpack_from(o.sign + 'H', data, place)[0]
+        for entry in range(place + 2, place + 2 + 12 * number, 12):
+            tag, kind, count, field = struct.unpack_from(o.sign + 'HHII', data, entry)
+            size = {3: 2, 4: 4}.get(kind)
+            if size:
+                struct.pack_into(o.sign + 'H', data, entry + 2, kind + 5)
+            if tag == below:
+                at = entry + 8 if size * count <= 4 else field
+                data[at : at + size * count] = b'\xff' * (size * count)
+        place = struct.unpack_from(o.sign + 'I', data, place + 2 + 12 * number)[0]
+    return bytes(data)
+
+
 def many_strips(count):
     """One page of so many strips of one byte, its arrays out of line."""
     o = Order('I')
@@ -211,6 +230,14 @@ file(
     '0000ff =626c7565', 'notes 0',
 )
 file('bits-uneven', interleaved('I', 2, 2, [8], None, 2, [(255, 0, 0), (0, 255, 0)], [b'red', b'green'], sample=(16, 8)), 'refused 8')
+# "Types 6, 8 and 9 are to be read as two's complement [..] Zero and above read as before"
+file(
+    'converted', converted(scenes('M', (1e-6, 1e-6, 2e-6), 2, 1, [(0, 255, 0), (255, 0, 0)], [b'calcite', b'clay'])),
+    'accepted', 'dims 1 2 1 1 2', 'kind 1', f'pixel {bits(1e-6)} {bits(1e-6)} {bits(2e-6)}', 'scenes 2', 'image #1', 'image #2', 'channels 2',
+    '00ff00 =63616c63697465', 'ff0000 =636c6179', 'notes 0',
+)
+# "writes strip offsets as SLONG, and one file held -1"
+file('negative', converted(scenes('M', (1e-6, 1e-6, 2e-6), 2, 1, [(0, 255, 0), (255, 0, 0)], [b'calcite', b'clay']), below=273), 'refused 9')
 file('too-long', bytes(65537), 'too long')
 file('longest', bytes(65536), 'refused 1')
 

@@ -10,10 +10,10 @@ use mathlib.Core.List.{List, [], ◌∷◌}
 use lib.Dec.{leb, eqb, T, leb→le, lit≤}
 use lib.ListN.{length}
 use borrow.Author.Tests.{eq-eqb, ne_eqb, eqb-true, leb-true, leb-false, le-leb, lt-leb, lt-ltb, le-ltb}
-use Rattle.lsm_format.specs.Answer.{Result, accepted, refused, bind, need, parse, decode}
-use Rattle.lsm_format.specs.Numbers.{Order, number_at, u16_at, u32_at}
-use Rattle.lsm_format.specs.Directory.{among, type_size, integer_size, value_at, values_at, value_place, entry_values, scalar_values, scalar, array_values, array, Values, Directory, Field, is_short, put, put_field, Tag, cz_lsm_info, put_cz, tag_of, entry_by, entry}
-use Rattle.lsm_format.proofs.Numbers.{number_past, number_there}
+use Rattle.lsm_format.specs.Answer.{Result, accepted, refused, bind, need, parse, decode, negative_value}
+use Rattle.lsm_format.specs.Numbers.{Order, value_of, number_at, u16_at, u32_at}
+use Rattle.lsm_format.specs.Directory.{among, type_size, integer_size, is_signed, is_negative, value_at, values_at, value_place, entry_values, scalar_values, scalar, array_values, array, Values, Directory, Field, is_short, put, put_field, Tag, cz_lsm_info, put_cz, tag_of, entry_by, entry}
+use Rattle.lsm_format.proofs.Numbers.{number_past, number_there, bytes_from}
 use Rattle.lsm_format.proofs.Accepting.{not_both}
 use Rattle.lsm_format.proofs.Apart.{no_case}
 
@@ -119,31 +119,48 @@ integer_size_lem t size i = by (among t (1 ∷ 3 ∷ 4 ∷ 6 ∷ 7 ∷ 8 ∷ 9 �
         or n (Some m) = m
     by false e = no_case cc
 
+-- a value: past the file, of 0 and above, and negative
+module _ (type size : ℕ) (o : Order) (f : List ℕ) (p : ℕ) (i : integer_size type ≡ Some size) where
+  pub value_past : length f < p + size → value_at type o f p ≡ refused parse
+  unfolding value_at bind
+  value_past h = rw (i, number_past size o f p h)
+
+  module _ (v : ℕ) (h : number_at size o f p ≡ accepted v) where
+    pub value_is : (is_signed type && is_negative size v) ≡ false → value_at type o f p ≡ accepted v
+    unfolding value_at bind
+    value_is s = rw (i, h, s)
+
+    pub value_negative : (is_signed type && is_negative size v) ≡ true → value_at type o f p ≡ refused negative_value
+    unfolding value_at bind
+    value_negative s = rw (i, h, s)
+
 module _ (n type size : ℕ) (o : Order) (f : List ℕ) (p : ℕ) (i : integer_size type ≡ Some size) where
-  pub values_next : (v : ℕ) → number_at size o f p ≡ accepted v → values_at (suc n) type o f p ≡ bind (values_at n type o f (p + size)) (λ vs. accepted (v ∷ vs))
-  unfolding values_at value_at bind
-  values_next v h = rw (i, h, integer_size_lem type size i)
+  pub values_next : (v : ℕ) → value_at type o f p ≡ accepted v → values_at (suc n) type o f p ≡ bind (values_at n type o f (p + size)) (λ vs. accepted (v ∷ vs))
+  unfolding values_at bind
+  values_next v h = rw (h, integer_size_lem type size i)
 
-  values_stop : (row : List ℕ) → number_at size o f p ≡ refused row → values_at (suc n) type o f p ≡ refused row
-  unfolding values_at value_at bind
-  values_stop row h = rw (i, h)
+  pub values_stop : (row : List ℕ) → value_at type o f p ≡ refused row → values_at (suc n) type o f p ≡ refused row
+  unfolding values_at bind
+  values_stop row h = rw h
 
--- values that pass the end are 1, whatever the bytes before it
-past_by : (k : ℕ) (b : Bool) (type size : ℕ) (o : Order) (e : List ℕ) (p : ℕ) → integer_size type ≡ Some size → leb (p + size) (length e) ≡ b →
-    length e < p + size * suc k → values_at (suc k) type o e p ≡ refused parse
-unfolding bind
-past_by zero true type size o e p i t h =
-    let there : p + size ≤ length e = leb-true _ _ t in
-    absurd (omega (arith, mul-suc size 0, mul-zero size))
-past_by zero false type size o e p i t h = values_stop zero type size o e p i parse (number_past size o e p (leb-false _ _ t))
-past_by (suc k) true type size o e p i t h =
-    values_next (suc k) type size o e p i _ (number_there size o e p (leb-true _ _ t))
-    ∙ rw (past_by k (leb (p + size + size) (length e)) type size o e (p + size) i refl (omega (arith, mul-suc size (suc k))))
-past_by (suc k) false type size o e p i t h = values_stop (suc k) type size o e p i parse (number_past size o e p (leb-false _ _ t))
+-- unsigned values that pass the end are 1, whatever the bytes before it
+module _ (type size : ℕ) (o : Order) (f : List ℕ) (i : integer_size type ≡ Some size) (u : is_signed type ≡ false) where
+  unsigned_is : (p : ℕ) → p + size ≤ length f → value_at type o f p ≡ accepted (value_of o (bytes_from size f p))
+  unsigned_is p h = value_is type size o f p i _ (number_there size o f p h) (rw u refl)
 
-pub values_past : (k type size : ℕ) (o : Order) (f : List ℕ) (p : ℕ) → integer_size type ≡ Some size → length f < p + size * suc k →
-    values_at (suc k) type o f p ≡ refused parse
-values_past k type size o f p i h = past_by k (leb (p + size) (length f)) type size o f p i refl h
+  past_by : (k : ℕ) (b : Bool) (p : ℕ) → leb (p + size) (length f) ≡ b → length f < p + size * suc k → values_at (suc k) type o f p ≡ refused parse
+  unfolding bind
+  past_by zero true p t h =
+      let there : p + size ≤ length f = leb-true _ _ t in
+      absurd (omega (arith, mul-suc size 0, mul-zero size))
+  past_by zero false p t h = values_stop zero type size o f p i parse (value_past type size o f p i (leb-false _ _ t))
+  past_by (suc k) true p t h =
+      values_next (suc k) type size o f p i _ (unsigned_is p (leb-true _ _ t))
+      ∙ rw (past_by k (leb (p + size + size) (length f)) (p + size) refl (omega (arith, mul-suc size (suc k))))
+  past_by (suc k) false p t h = values_stop (suc k) type size o f p i parse (value_past type size o f p i (leb-false _ _ t))
+
+  pub values_past : (k p : ℕ) → length f < p + size * suc k → values_at (suc k) type o f p ≡ refused parse
+  values_past k p h = past_by k (leb (p + size) (length f)) p refl h
 
 -- ---- sizes of types
 
@@ -192,9 +209,9 @@ module _ (o : Order) (f : List ℕ) (type count place : ℕ) where
     scalar_no_count n =
         rw (integer_size_lem type size i, ne_eqb size 0 z, ← place_in_entry o f size count place (rw n (omega (arith, mul-zero size))), eq-eqb count 0 n)
 
-    pub scalar_is : (count ≡ 0 → ⊥) → (p : ℕ) → value_place o f size count place ≡ accepted p → number_at size o f p ≡ scalar o f type count place
-    unfolding scalar scalar_values entry_values value_at bind
-    scalar_is n p e = rw (integer_size_lem type size i, ne_eqb size 0 z, e, ne_eqb count 0 n, i)
+    pub scalar_is : (count ≡ 0 → ⊥) → (p : ℕ) → value_place o f size count place ≡ accepted p → value_at type o f p ≡ scalar o f type count place
+    unfolding scalar scalar_values entry_values bind
+    scalar_is n p e = rw (integer_size_lem type size i, ne_eqb size 0 z, e, ne_eqb count 0 n)
 
 -- ---- strip arrays, case by case in the order of their checks
 

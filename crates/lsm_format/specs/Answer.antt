@@ -55,3 +55,7 @@ too_short needed = 7 ∷ needed ∷ []
 -- Document 02, request 3: "8, uneven bits or a wrong count". "New numbers, here and later, [..] carry no figures and write nothing."
 abbrev pub uneven_bits : List ℕ
 uneven_bits = 8 ∷ []
+
+-- Document 02, request 5: "9, a negative value".
+abbrev pub negative_value : List ℕ
+negative_value = 9 ∷ []

@@ -1,13 +1,13 @@
 -- What the code's types mean in the definitions' terms. For each enum that a function answers, its document 01 number and
 -- values, or its value.
 use Rattle.std.specs.Prelude.{ℕ, List, Result as Answered, Ok, Err}
-use Rattle.lsm_format.specs.Answer.{Result, accepted, refused, parse, decode, unsupported, oversized_allocation, scene_out_of_range, out_of_range, too_short, uneven_bits}
+use Rattle.lsm_format.specs.Answer.{Result, accepted, refused, parse, decode, unsupported, oversized_allocation, scene_out_of_range, out_of_range, too_short, uneven_bits, negative_value}
 use Rattle.lsm_format.specs.Numbers.{Order, little, big}
 use Rattle.lsm_format.specs.Sizes.{Kind, u8, u16, i16, f32}
 use Rattle.lsm_format.specs.Rectangle as Rule
 use Rattle.lsm_format.specs.Rectangle.{Dims, Rect}
 use Rattle.lsm_format.specs.declared.error.Refusal.{Refusal}
-use Rattle.lsm_format.specs.declared.error.Refusal.TheVariants.{Parse, Decode, Unsupported, OversizedAllocation, SceneOutOfRange, OutOfRange, TooShort, UnevenBits}
+use Rattle.lsm_format.specs.declared.error.Refusal.TheVariants.{Parse, Decode, Unsupported, OversizedAllocation, SceneOutOfRange, OutOfRange, TooShort, UnevenBits, NegativeValue}
 use Rattle.lsm_format.specs.declared.types.Endian.{Endian}
 use Rattle.lsm_format.specs.declared.types.Endian.TheVariants.{Little, Big}
 use Rattle.lsm_format.specs.declared.types.DType.{DType}
@@ -26,6 +26,7 @@ row_of (SceneOutOfRange scene count) = scene_out_of_range scene count
 row_of (OutOfRange scene t c z) = out_of_range scene t c z
 row_of (TooShort needed) = too_short needed
 row_of UnevenBits = uneven_bits
+row_of NegativeValue = negative_value
 
 abbrev pub order_of : Endian → Order
 order_of Little = little

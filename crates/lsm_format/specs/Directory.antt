@@ -1,6 +1,6 @@
 -- One image file directory (lsm_reader.rs, parse_ifd; TIFF 6.0, section 2, "Image File Directory").
-use Rattle.std.specs.Prelude.{ℕ, zero, suc, ◌+◌, ◌*◌, ◌/◌, ◌%◌, Bool, true, false, not, ◌||◌, cond, List, [], ◌∷◌, leb, ltb, eqb, Option, None, Some}
-use Rattle.lsm_format.specs.Answer.{Result, accepted, bind, need, given, decode, uneven_bits}
+use Rattle.std.specs.Prelude.{ℕ, zero, suc, ◌+◌, ◌-◌, ◌*◌, ◌^◌, ◌/◌, ◌%◌, Bool, true, false, not, ◌&&◌, ◌||◌, cond, List, [], ◌∷◌, leb, ltb, eqb, Option, None, Some}
+use Rattle.lsm_format.specs.Answer.{Result, accepted, bind, need, given, decode, uneven_bits, negative_value}
 use Rattle.lsm_format.specs.Ranges.{Ranges, nothing, both, over, in_file}
 use Rattle.lsm_format.specs.Numbers.{Order, number_at, u16_at, u32_at}
 
@@ -23,11 +23,23 @@ type_size t =
 unfoldable pub integer_size : ℕ → Option ℕ
 integer_size t = cond (among t (1 ∷ 3 ∷ 4 ∷ 6 ∷ 7 ∷ 8 ∷ 9 ∷ 11 ∷ [])) (Some (type_size t)) None
 
+-- Document 02, request 5: "Types 6, 8 and 9 are to be read as two's complement". Of document 01's "Types 6, 8, 9 and 11 are read as unsigned
+-- bits" type 11 is left.
+abbrev pub is_signed : ℕ → Bool
+is_signed t = among t (6 ∷ 8 ∷ 9 ∷ [])
+
+-- TIFF 6.0, "Types": an SBYTE, SSHORT or SLONG is a "signed (twos-complement) integer" of 8, 16 or 32 bits: negative where its own top bit is set.
+abbrev pub is_negative : ℕ → ℕ → Bool
+is_negative size v = leb (2 ^ (8 * size - 1)) v
+
 -- ---- values
 
--- One value of a type at a place: "Types 6, 8, 9 and 11 are read as unsigned bits".
+-- One value of a type at a place: "9, a negative value, on opening, as soon as that value is read"; "Zero and above read as before".
 unfoldable pub value_at : ℕ → Order → List ℕ → ℕ → Result ℕ
-value_at type o f p = bind (given decode (integer_size type)) (λ size. number_at size o f p)
+value_at type o f p =
+    bind (given decode (integer_size type)) (λ size.
+    bind (number_at size o f p) (λ v.
+    bind (need negative_value (not (is_signed type && is_negative size v))) (λ _. accepted v)))
 
 -- n values of a type, one after another from a place on.
 unfoldable pub values_at : ℕ → ℕ → Order → List ℕ → ℕ → Result (List ℕ)
@@ -245,9 +257,17 @@ equal_ranges (suc n) v type o f p =
 abbrev pub scalar_ranges : Order → List ℕ → ℕ → ℕ → ℕ → Ranges
 scalar_ranges o f type count place = over (scalar_values o f type count place) (λ v. value_ranges 1 v.type f v.place)
 
--- "and all values of strip arrays"
+-- The bytes of values that are read "value by value": up to the first that is negative or past the file.
+unfoldable pub signed_ranges : ℕ → ℕ → Order → List ℕ → ℕ → Ranges
+signed_ranges zero type o f p = nothing
+signed_ranges (suc n) type o f p =
+    both (value_ranges 1 type f p) (over (value_at type o f p) (λ _. signed_ranges n type o f (p + type_size type)))
+
+-- "and all values of strip arrays". Of unsigned ones that pass the file none is read: they are 1, whatever the first of them are.
 abbrev pub array_ranges : Order → List ℕ → ℕ → ℕ → ℕ → Ranges
-array_ranges o f type count place = over (array_values o f type count place) (λ v. value_ranges v.count v.type f v.place)
+array_ranges o f type count place =
+    over (array_values o f type count place) (λ v.
+    cond (is_signed v.type) (signed_ranges v.count v.type o f v.place) (value_ranges v.count v.type f v.place))
 
 abbrev pub entry_by_ranges : Tag → Order → List ℕ → ℕ → ℕ → ℕ → Ranges
 entry_by_ranges (field t) o f type count place = scalar_ranges o f type count place

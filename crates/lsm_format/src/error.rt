@@ -35,6 +35,8 @@ pub enum Refusal {
     },
     // Channels of one page with different bits, or bits for another number of channels.
     UnevenBits,
+    // An entry's value below 0, where a number, a place or a length is stated.
+    NegativeValue,
 }
 
 // The row of these numbers. The longest has five, so there is room for all of them.
@@ -61,6 +63,7 @@ impl Refusal {
             Refusal::OutOfRange { scene, t, c, z } => row(&[6, scene, t, c, z]),
             Refusal::TooShort { needed } => row(&[7, needed]),
             Refusal::UnevenBits => row(&[8]),
+            Refusal::NegativeValue => row(&[9]),
         }
     }
 }

@@ -2,7 +2,7 @@
 use Prim.Native.Nat.{ℕ, zero, suc, ◌+◌, ◌*◌, ◌≤◌, ◌<◌}
 use native.Mathlib.Nat.{mul-suc, mul-zero, mul-one}
 use native.Mathlib.Omega.{arith}
-use mathlib.Core.Bool.{Bool, true, false}
+use mathlib.Core.Bool.{Bool, true, false, cond}
 use Rattle.std.specs.Prelude.{Option, None, Some}
 use mathlib.Core.Path.{◌≡◌, refl, sym, ◌∙◌}
 use mathlib.Core.List.{List}
@@ -12,7 +12,7 @@ use borrow.Author.Tests.{leb-true, leb-false}
 use Rattle.lsm_format.specs.Answer.{Result, accepted, refused, bind, given, decode}
 use Rattle.lsm_format.specs.Ranges.{over, in_file, On, Agree}
 use Rattle.lsm_format.specs.Numbers.{Order, u16_at, u32_at}
-use Rattle.lsm_format.specs.Directory.{type_size, integer_size, value_at, values_at, all_equal, value_ranges, equal_ranges, place_by, value_place, entry_values, scalar_values, scalar, scalar_ranges, array_values, array, array_ranges, Directory, plain, Tag, field, sample_bits, strip_offsets, strip_byte_counts, cz_lsm_info, other, tag_of, entry_by, entry_by_ranges, entry, entry_ranges, entries, entries_ranges, ends, directory, directory_ranges}
+use Rattle.lsm_format.specs.Directory.{type_size, integer_size, is_signed, value_at, values_at, all_equal, value_ranges, equal_ranges, signed_ranges, place_by, value_place, entry_values, scalar_values, scalar, scalar_ranges, array_values, array, array_ranges, Directory, plain, Tag, field, sample_bits, strip_offsets, strip_byte_counts, cz_lsm_info, other, tag_of, entry_by, entry_by_ranges, entry, entry_ranges, entries, entries_ranges, ends, directory, directory_ranges}
 use Rattle.lsm_format.proofs.Numbers.{number_inside}
 use Rattle.lsm_format.proofs.Directory.{integer_size_lem, values_past}
 use Rattle.lsm_overwrite.proofs.TwoFiles.{bind_law, bind_told, over_law, on_part, in_file_at, number_law, number_listed, number_last}
@@ -63,7 +63,7 @@ module _ (f g : List ℕ) (len : length g ≡ length f) where
   value_on : (type size : ℕ) (o : Order) (p n : ℕ) → integer_size type ≡ Some size → On f g p n → (p ≤ p) × (p + size ≤ p + n) →
       value_at type o g p ≡ value_at type o f p
   unfolding value_at bind
-  value_on type size o p n i h l = rw i (number_law f g len size o p n p h l)
+  value_on type size o p n i h l = rw i (bind_law _ (number_law f g len size o p n p h l) (λ v. refl))
 
   -- values one after another, in the file and past its end
   values_on : (k type size : ℕ) (o : Order) (p : ℕ) → integer_size type ≡ Some size → On f g p (size * k) → values_at k type o g p ≡ values_at k type o f p
@@ -80,13 +80,14 @@ module _ (f g : List ℕ) (len : length g ≡ length f) where
       rest : (size k p : ℕ) → (p ≤ p + size) × (p + size + size * k ≤ p + size * suc k)
       rest size k p = omega (arith, mul-suc size k)
 
-  values_by : (b : Bool) (k type size : ℕ) (o : Order) (p : ℕ) → integer_size type ≡ Some size → leb (p + size * k) (length f) ≡ b →
+  -- unsigned ones that pass the end are refused in both
+  values_by : (b : Bool) (k type size : ℕ) (o : Order) (p : ℕ) → is_signed type ≡ false → integer_size type ≡ Some size → leb (p + size * k) (length f) ≡ b →
       Agree f g (in_file f p (size * k)) → values_at k type o g p ≡ values_at k type o f p
-  values_by true k type size o p i t a = values_on k type size o p i (rw (in_file_at f p (size * k) (leb-true _ _ t)) at a)
-  values_by false zero type size o p i t a = values_on zero type size o p i (λ q j. absurd (omega (arith, mul-zero size)))
-  values_by false (suc k) type size o p i t a =
+  values_by true k type size o p u i t a = values_on k type size o p i (rw (in_file_at f p (size * k) (leb-true _ _ t)) at a)
+  values_by false zero type size o p u i t a = values_on zero type size o p i (λ q j. absurd (omega (arith, mul-zero size)))
+  values_by false (suc k) type size o p u i t a =
       let past : length f < p + size * suc k = leb-false _ _ t in
-      rw (values_past k type size o f p i past, values_past k type size o g p i (omega arith))
+      rw (values_past type size o f i u k p past, values_past type size o g i u k p (omega arith))
 
   -- whatever the type: one that is no number is refused in both
   no_values : (k type : ℕ) (o : Order) (p : ℕ) → integer_size type ≡ None → values_at k type o g p ≡ values_at k type o f p
@@ -94,18 +95,34 @@ module _ (f g : List ℕ) (len : length g ≡ length f) where
   no_values zero type o p i = refl
   no_values (suc k) type o p i = rw i
 
-  values_law : (k type : ℕ) (o : Order) (p : ℕ) → Agree f g (value_ranges k type f p) → values_at k type o g p ≡ values_at k type o f p
+  unsigned_law : (k type : ℕ) (o : Order) (p : ℕ) → is_signed type ≡ false → Agree f g (value_ranges k type f p) →
+      values_at k type o g p ≡ values_at k type o f p
   unfolding over
-  values_law k type o p a = by (integer_size type) refl a
+  unsigned_law k type o p u a = by (integer_size type) refl a
     where
       by : (x : Option ℕ) → integer_size type ≡ x → Agree f g (over (given decode x) (λ size. in_file f p (size * k))) → values_at k type o g p ≡ values_at k type o f p
       by None i b = no_values k type o p i
-      by (Some size) i b = values_by (leb (p + size * k) (length f)) k type size o p i refl b
+      by (Some size) i b = values_by (leb (p + size * k) (length f)) k type size o p u i refl b
 
   value_law : (type : ℕ) (o : Order) (p : ℕ) → Agree f g (value_ranges 1 type f p) → value_at type o g p ≡ value_at type o f p
   unfolding value_at
   value_law type o p a =
-      over_law f g _ _ refl a (λ size b. number_listed f g len size o p (rw mul-one at b))
+      over_law f g _ _ refl a (λ size b. bind_law _ (number_listed f g len size o p (rw mul-one at b)) (λ v. refl))
+
+  -- values that are read one by one
+  signed_law : (k type : ℕ) (o : Order) (p : ℕ) → Agree f g (signed_ranges k type o f p) → values_at k type o g p ≡ values_at k type o f p
+  unfolding values_at signed_ranges
+  signed_law zero type o p a = refl
+  signed_law (suc k) type o p a =
+      over_law f g _ _ (value_law type o p a.0) a.1 (λ v b. bind_law _ (signed_law k type o (p + type_size type) b) (λ vs. refl))
+
+  values_law : (k type : ℕ) (o : Order) (p : ℕ) → Agree f g (cond (is_signed type) (signed_ranges k type o f p) (value_ranges k type f p)) →
+      values_at k type o g p ≡ values_at k type o f p
+  values_law k type o p a = by (is_signed type) refl a
+    where
+      by : (b : Bool) → is_signed type ≡ b → Agree f g (cond b (signed_ranges k type o f p) (value_ranges k type f p)) → values_at k type o g p ≡ values_at k type o f p
+      by true s a = signed_law k type o p a
+      by false s a = unsigned_law k type o p s a
 
   -- values that are held against one, each before the next
   pub equal_law : (k v type : ℕ) (o : Order) (p : ℕ) → Agree f g (equal_ranges k v type o f p) → all_equal k v type o g p ≡ all_equal k v type o f p

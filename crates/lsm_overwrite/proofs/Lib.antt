@@ -2,6 +2,7 @@ pub mod TwoFiles
 pub mod CzInfo
 pub mod Channels
 pub mod Directory
+pub mod Signed
 pub mod Open
 pub mod Table
 pub mod Picture

@@ -1,1 +1,2 @@
+pub mod Signs
 pub mod Laws

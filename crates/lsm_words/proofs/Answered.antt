@@ -7,7 +7,7 @@ use lib.ListN.{length, drop, replicate}
 use Rattle.std.proofs.lemmas.List.{drop-replicate, replicate-append-replicate}
 use Rattle.lsm_format.specs.Code.{row_of}
 use Rattle.lsm_format.specs.declared.error.Refusal.{Refusal}
-use Rattle.lsm_format.specs.declared.error.Refusal.TheVariants.{Parse, Decode, Unsupported, OversizedAllocation, SceneOutOfRange, OutOfRange, TooShort, UnevenBits}
+use Rattle.lsm_format.specs.declared.error.Refusal.TheVariants.{Parse, Decode, Unsupported, OversizedAllocation, SceneOutOfRange, OutOfRange, TooShort, UnevenBits, NegativeValue}
 use Rattle.lsm_words.specs.Answers.{padded}
 
 pub row_short : (r : Refusal) → length (row_of r) ≤ 5
@@ -19,6 +19,7 @@ row_short (SceneOutOfRange scene count) = omega arith
 row_short (OutOfRange scene t c z) = omega arith
 row_short (TooShort needed) = omega arith
 row_short UnevenBits = omega arith
+row_short NegativeValue = omega arith
 
 pub padded_row : (n k : ℕ) (r : Refusal) (row copied : List ℕ) → 5 ≤ n → row ≡ row_of r → copied ≡ row → k ≡ length row
     → copied ++ drop k (replicate n 0) ≡ padded n (row_of r)

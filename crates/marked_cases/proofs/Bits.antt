@@ -21,7 +21,7 @@ use Rattle.marked_cases.proofs.Series.{short}
 -- ---- a file with so many channels
 
 -- Little-endian, the directory at 52, in front of it the CZ block (X 1, Y 1), four bytes of samples at 36 and twelve for values at 40.
-abbrev front : ℕ → ℕ → List ℕ → List ℕ
+abbrev pub front : ℕ → ℕ → List ℕ → List ℕ
 front z channels values =
     73 ∷ 73 ∷ 42 ∷ 0 ∷ 52 ∷ 0 ∷ 0 ∷ 0
     ∷ 76 ∷ 73 ∷ 0 ∷ 4 ∷ 28 ∷ 0 ∷ 0 ∷ 0
@@ -30,19 +30,19 @@ front z channels values =
     ∷ values
 
 -- Twelve bytes with three values of 16 bits.
-abbrev values : ℕ → ℕ → ℕ → List ℕ
+abbrev pub values : ℕ → ℕ → ℕ → List ℕ
 values a b c = a ∷ 0 ∷ b ∷ 0 ∷ c ∷ 0 ∷ 0 ∷ 0 ∷ 0 ∷ 0 ∷ 0 ∷ 0 ∷ []
 
 -- A directory of n entries.
-abbrev of_entries : ℕ → List ℕ → ℕ → List ℕ
+abbrev pub of_entries : ℕ → List ℕ → ℕ → List ℕ
 of_entries n entries next = n ∷ 0 ∷ entries ++ next ∷ 0 ∷ 0 ∷ 0 ∷ []
 
 -- Six entries: width 1, a height, the bits, one strip, samples per pixel, and its byte count.
-abbrev page : ℕ → List ℕ → ℕ → List ℕ
+abbrev pub page : ℕ → List ℕ → ℕ → List ℕ
 page height bits samples =
     short 0 1 1 0 ++ short 1 1 height 0 ++ bits ++ short 17 1 36 0 ++ short 21 1 samples 0 ++ short 23 1 4 0
 
-abbrev cz_entry : List ℕ
+abbrev pub cz_entry : List ℕ
 cz_entry = 108 ∷ 134 ∷ 1 ∷ 0 ∷ 28 ∷ 0 ∷ 0 ∷ 0 ∷ 8 ∷ 0 ∷ 0 ∷ 0 ∷ []
 
 -- A file of one page, whose samples per pixel are given too; it ends at 142.
@@ -50,7 +50,7 @@ abbrev pub of_page : ℕ → ℕ → List ℕ → List ℕ → List ℕ
 of_page channels samples held bits = front 1 channels held ++ of_entries 7 (page 1 bits samples ++ cz_entry) 0
 
 -- The same with one or several entries before the page's own.
-abbrev after : ℕ → List ℕ → ℕ → List ℕ → List ℕ → List ℕ
+abbrev pub after : ℕ → List ℕ → ℕ → List ℕ → List ℕ → List ℕ
 after n first channels held bits = front 1 channels held ++ of_entries n (first ++ page 1 bits channels ++ cz_entry) 0
 
 -- How many channels a file opens with, and how many directories were visited.
@@ -141,7 +141,7 @@ then_page z height bits samples =
     front z 2 (values 0 0 0) ++ of_entries 7 (page 1 (short 2 2 8 8) 2 ++ cz_entry) 142 ++ of_entries 6 (page height bits samples) 0
 
 -- NewSubfileType 1
-abbrev reduced_entry : List ℕ
+abbrev pub reduced_entry : List ℕ
 reduced_entry = 254 ∷ 0 ∷ 3 ∷ 0 ∷ 1 ∷ 0 ∷ 0 ∷ 0 ∷ 1 ∷ 0 ∷ 0 ∷ 0 ∷ []
 
 -- The second directory is a reduced page, whose three values are given, and stand at 40.

@@ -7,3 +7,4 @@ pub mod Handed
 pub mod Series
 pub mod Interleaved
 pub mod Bits
+pub mod Signed

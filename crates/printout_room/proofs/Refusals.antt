@@ -8,7 +8,7 @@ use mathlib.Core.List.{List, [], ◌∷◌}
 use lib.Dec.{leb, eqb}
 use lib.IntN.{ℤ, pos, negsuc}
 use lib.ListN.{length, length-append}
-use Rattle.lsm_format.specs.Answer.{Result, accepted, refused, bind, need, given, parse, decode, unsupported, uneven_bits}
+use Rattle.lsm_format.specs.Answer.{Result, accepted, refused, bind, need, given, parse, decode, unsupported, uneven_bits, negative_value}
 use Rattle.lsm_format.specs.Numbers.{Order, part_at, number_at, i32_at}
 use Rattle.lsm_format.specs.Scenes.{count, scenes, layout, pages_expected}
 use Rattle.lsm_format.specs.Lent.{lend}
@@ -52,6 +52,9 @@ unsupported_short = one_short 3 (omega arith)
 uneven_short : Short uneven_bits
 uneven_short = one_short 8 (omega arith)
 
+negative_short : Short negative_value
+negative_short = one_short 9 (omega arith)
+
 -- ---- steps
 
 -- Whatever is refused is refused with such a row.
@@ -84,7 +87,7 @@ cond_refuses : {A : Type 0} (b : Bool) (x y : Result A) → Refusing x → Refus
 cond_refuses true x y h i = h
 cond_refuses false x y h i = i
 
-ruleset steps = (accepts, refuses, bind_refuses, need_refuses, given_refuses, cond_refuses, parse_short, decode_short, unsupported_short, uneven_short)
+ruleset steps = (accepts, refuses, bind_refuses, need_refuses, given_refuses, cond_refuses, parse_short, decode_short, unsupported_short, uneven_short, negative_short)
 
 -- ---- numbers in the file
 
