@@ -201,6 +201,22 @@ fn arrays(entries: u64, values: u64, back: bool) -> Vec<u8> {
     f.bytes
 }
 
+// One reduced directory of so many strip arrays of a type of 4 bytes, in which all of them have the same 100,000 values: the most that an array
+// may have.
+fn same_array(entries: u64, ty: u64) -> Vec<u8> {
+    let (end, values) = (8 + 2 + 12 * (entries + 1) + 4, 100_000);
+    let mut f = File::new(false, (end + 4 * values) as usize);
+    f.put(8, entries + 1, 2);
+    f.entry(10, 254, 4, 1, REDUCED);
+    for i in 0..entries {
+        f.entry((22 + 12 * i) as usize, if i % 2 == 0 { 273 } else { 279 }, ty, values, end);
+    }
+    for i in 0..values {
+        f.put((end + 4 * i) as usize, 8 + i, 4);
+    }
+    f.bytes
+}
+
 // So many directories of 65,535 entries that nobody reads, each 12 bytes past the one before, so that they lie over one another. The next
 // pointer of one is the tag of an entry of another: they start so far on that it is no tag that is read.
 fn overlapping(directories: u64) -> Vec<u8> {
@@ -239,6 +255,10 @@ fn hostile_file(port: &mut dyn Port, what: &str, bytes: &[u8], runs: usize) {
     line(&format!("{what}, {} bytes", bytes.len()), &original, &ours, &[]);
 }
 
+// The same directory in LONG and in SLONG, of which each value's sign is looked at.
+const SAME_ARRAYS: [(&str, u64, u64); 2] =
+    [("20,000 LONG arrays of the same 100,000", 20_000, 4), ("20,000 SLONG arrays of the same 100,000", 20_000, 9)];
+
 pub fn hostile(port: &mut dyn Port) {
     println!("port: {}; opening, least of the runs of each", port.name());
     hostile_file(port, "a directory that leads to itself", &circle(1, 0), 3);
@@ -252,4 +272,7 @@ pub fn hostile(port: &mut dyn Port) {
     hostile_file(port, "10,000 pages of 65,535 bits", &channels(10_000, 65_535, false), 3);
     hostile_file(port, "400 strip arrays of 60,000 values", &arrays(400, 60_000, false), 3);
     hostile_file(port, "5,000 strip arrays of 60,000 values", &arrays(5000, 60_000, false), 1);
+    for (what, entries, ty) in SAME_ARRAYS {
+        hostile_file(port, what, &same_array(entries, ty), 1);
+    }
 }

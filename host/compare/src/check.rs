@@ -7,6 +7,7 @@ use crate::past;
 use crate::port::Port;
 use crate::random::Random;
 use crate::rules;
+use crate::signs;
 use crate::standin::{CHANNEL_WORDS, DESCRIPTION_WORDS, OPEN_WORDS, PICTURE_WORDS};
 use crate::twin::twin;
 use crate::walk::{walk, Walk};
@@ -19,11 +20,11 @@ pub const LIMIT: usize = 1 << 32;
 
 // How many of a sort of call came out how: by the refusal's number, 0 for accepted.
 #[derive(Default, Clone)]
-pub struct Count(pub [u64; 9]);
+pub struct Count(pub [u64; 10]);
 
 impl Count {
     fn add(&mut self, n: usize) {
-        self.0[n.min(8)] += 1;
+        self.0[n.min(9)] += 1;
     }
 
     pub fn sum(&self) -> u64 {
@@ -80,6 +81,14 @@ pub struct Bits {
     pub out_of_line: u64,
 }
 
+// Files with values of signed types: those that the host refuses for a negative one, and those that opened, each by a scalar, an array, and
+// further values of the bits.
+#[derive(Default, Clone)]
+pub struct Signs {
+    pub negative: [u64; 3],
+    pub opened: [u64; 3],
+}
+
 #[derive(Default, Clone)]
 pub struct Tally {
     pub files: u64,
@@ -97,6 +106,7 @@ pub struct Tally {
     pub series: Series,
     pub interleaved: Interleaved,
     pub bits: Bits,
+    pub signs: Signs,
     pub not_reserved: u64,
     pub circles: u64,
     pub circles_left: u64,
@@ -130,7 +140,8 @@ pub fn by_original(memory: &mut Memory, file: &[u8], w: &Walk) -> Judged {
     probe::judged(memory, file, |sort| twin(file, w, sort.series, sort.interleaved))
 }
 
-// The same by the rule for the bits of several channels where that refuses the file, otherwise by the original.
+// The same by the host's own rules, for the bits of several channels and for negative values, where they refuse the file; otherwise by the
+// original.
 pub fn judged(memory: &mut Memory, file: &[u8], w: &Walk, bits: &bits::Found) -> Judged {
     match bits.refusal {
         Some(number) => Judged { sort: Sort::default(), answer: Some(Err(bits::refused(number))) },
@@ -367,6 +378,9 @@ impl Both {
         let (series, interleaved, bits) = (&mut self.tally.series, &mut self.tally.interleaved, &mut self.tally.bits);
         bits.uneven += (found.refusal == Some(8)) as u64;
         bits.past += (found.refusal == Some(1)) as u64;
+        if let Some(value) = found.negative {
+            self.tally.signs.negative[value as usize] += 1;
+        }
         match answer {
             None => {
                 *if sort.interleaved { &mut interleaved.left_out } else { &mut series.left_out } += 1;
@@ -383,6 +397,10 @@ impl Both {
                 interleaved.series += (sort.series && sort.interleaved) as u64;
                 bits.in_line += found.in_line as u64;
                 bits.out_of_line += found.out_of_line as u64;
+                let signed = signs::of_signed_types(file, &w).expect("the chain of a file that opens");
+                for (count, found) in self.tally.signs.opened.iter_mut().zip(signed) {
+                    *count += found as u64;
+                }
                 self.describe(file, &w, &mut o);
                 self.accepted(file, &w, &o, r)
             }
@@ -749,9 +767,15 @@ impl Both {
         }
     }
 
-    // The files whose bits settle the number that opening answers: the host must say it, and so must the port.
-    pub fn settled_bits(&mut self) -> Option<String> {
-        for (i, (file, wanted)) in rules::bits().into_iter().enumerate() {
+    // The files whose bits or signs settle the number that opening answers: the host must say it, and so must the port.
+    pub fn settled_openings(&mut self) -> Option<String> {
+        self.settled_as("bits", rules::bits()).or_else(|| self.settled_as("signs", rules::signs()))
+    }
+
+    fn settled_as(&mut self, what: &str, list: rules::Answered) -> Option<String> {
+        for (i, (file, wanted)) in list.into_iter().enumerate() {
+            // a chain that comes back on itself is asked too
+            self.circles = 1;
             let w = walk(&file);
             let found = bits::found(&file, &w);
             let said = match judged(&mut self.memory, &file, &w, &found).answer {
@@ -765,7 +789,7 @@ impl Both {
                 self.examine(&file, &mut Random::of_case(0, i as u64, 0))
             };
             if let Some(d) = d {
-                return Some(format!("settled bits {i}: {d}, file {}", crate::hex(&file)));
+                return Some(format!("settled {what} {i}: {d}, file {}", crate::hex(&file)));
             }
         }
         None

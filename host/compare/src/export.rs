@@ -1,9 +1,11 @@
 // The stand-in as a static library with the C interface, so that the way through C can be tried before the library is there.
 #[allow(dead_code)] // the faults of a faulty port
+mod negative;
+#[allow(dead_code)] // as of negative
 mod pixels;
 mod standin;
 mod twin;
-#[allow(dead_code)] // as of pixels
+#[allow(dead_code)] // as of negative
 mod uneven;
 mod walk;
 

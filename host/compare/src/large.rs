@@ -176,6 +176,25 @@ fn uneven(big: bool, others: usize) -> Vec<u8> {
     f.bytes
 }
 
+// The same chain, of which the last directory says as an SLONG that it is a reduced page, by a number below zero.
+fn negative(big: bool, others: usize) -> Vec<u8> {
+    let mut f = File { bytes: chain(big, others), big };
+    let last = f.bytes.len() - 18;
+    f.entry(last + 2, 254, 9, 1, 0xffff_ffff);
+    f.bytes
+}
+
+// So many strips of one byte each, with places of type SLONG and lengths of type SBYTE. Of the places one may be below zero.
+fn signed_strips(big: bool, n: usize, negative: Option<usize>) -> Vec<u8> {
+    let mut f = page(big, n as u64, 1, 128 + 5 * n, (9, n as u64, 128), (6, n as u64, 128 + 4 * n as u64));
+    for i in 0..n {
+        let place = if negative == Some(i) { 0xffff_ffff } else { 128 + (i % 251) as u64 };
+        f.put(128 + 4 * i, place, 4);
+    }
+    f.bytes[128 + 4 * n..].fill(1);
+    f.bytes
+}
+
 // A page of the most channels, interleaved, with a byte of BitsPerSample for each; the last is another, or so many are missing.
 fn most_bits(big: bool, last: u8, missing: usize) -> Vec<u8> {
     let most = 65_535;
@@ -222,6 +241,11 @@ pub fn files() -> Vec<(&'static str, Vec<u8>)> {
     for big in [false, true] {
         list.push(("1,000,000 directories, the last of uneven bits", uneven(big, 999_999)));
         list.push(("1,000,001 directories, the last of uneven bits", uneven(big, 1_000_000)));
+        list.push(("1,000,000 directories, the last with a negative value", negative(big, 999_999)));
+        list.push(("1,000,001 directories, the last with a negative value", negative(big, 1_000_000)));
+        list.push(("100,000 strips in signed types", signed_strips(big, 100_000, None)));
+        list.push(("100,000 strips in signed types, the last at a negative place", signed_strips(big, 100_000, Some(99_999))));
+        list.push(("100,001 strips in signed types, the first at a negative place", signed_strips(big, 100_001, Some(0))));
         list.push(("bits of 65,535 channels", most_bits(big, 8, 0)));
         list.push(("bits of 65,535 channels, the last uneven", most_bits(big, 9, 0)));
         list.push(("bits of 65,535 channels, the last past the file", most_bits(big, 8, 1)));

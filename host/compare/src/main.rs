@@ -7,6 +7,8 @@ mod joined;
 mod large;
 mod lent;
 mod make;
+#[cfg_attr(feature = "library", allow(dead_code))]
+mod negative;
 mod past;
 mod pictures;
 mod pixels;
@@ -14,6 +16,7 @@ mod port;
 mod random;
 mod record;
 mod rules;
+mod signs;
 #[cfg_attr(feature = "library", allow(dead_code))]
 mod standin;
 mod twin;
@@ -56,7 +59,7 @@ const USAGE: &str = "options:
   --no-large     without the large files
   --no-pictures  without planes and regions
   --keep N       go on until N differences were shown (1)
-  --fault N      a port with a fault, 1 to 50, to see that it is noticed
+  --fault N      a port with a fault, 1 to 62, to see that it is noticed
   --bench        times of both instead of a comparison
   --hostile      times of opening hostile files
   --case N       only this case: its bytes and both answers
@@ -187,8 +190,8 @@ fn show(both: &mut Both, file: &[u8], seed: u64, case: u64, difference: &str, wh
 }
 
 fn line(name: &str, c: &Count) {
-    let [ok, a, b, d, e, f, g, h, i] = c.0;
-    println!("{name:<10}{:>12}  accepted {ok}  1: {a}  2: {b}  3: {d}  4: {e}  5: {f}  6: {g}  7: {h}  8: {i}", c.sum());
+    let [ok, a, b, d, e, f, g, h, i, j] = c.0;
+    println!("{name:<10}{:>12}  accepted {ok}  1: {a}  2: {b}  3: {d}  4: {e}  5: {f}  6: {g}  7: {h}  8: {i}  9: {j}", c.sum());
 }
 
 fn report(t: &Tally, o: &Options, port: &str, took: Duration, differences: u64) {
@@ -233,6 +236,12 @@ fn report(t: &Tally, o: &Options, port: &str, took: Duration, differences: u64) 
     println!(
         "bits for each channel: {} refused with 8 and {} with 1 by the host; opened with several values {} in line and {} out of line",
         b.uneven, b.past, b.in_line, b.out_of_line
+    );
+    let [scalars, arrays, bits] = t.signs.negative;
+    let opened = t.signs.opened;
+    println!(
+        "signed types: refused with 9 by the host for a scalar {scalars}, for a value of an array {arrays}, for a further value of the bits {bits}; opened with such scalars {}, arrays {}, further values {}",
+        opened[0], opened[1], opened[2]
     );
     println!(
         "not compared: {} circles beyond those asked ({} asked), {} pictures that the original would reserve first, {} series and {} files of interleaved channels without a twin",
@@ -284,7 +293,7 @@ fn main() {
     }
     let start = Instant::now();
     let mut differences = 0;
-    let settled = both.settled_bits().or_else(|| if both.pictures { both.settled() } else { None });
+    let settled = both.settled_openings().or_else(|| if both.pictures { both.settled() } else { None });
     if let Some(d) = settled {
         differences += 1;
         println!("DIFFERENCE: {d}");

@@ -116,6 +116,7 @@ fn bytes_of(big: bool, n: u64, len: usize) -> Bytes {
     Bytes { bytes, len }
 }
 
+#[derive(Clone)]
 enum Data {
     Values(Vec<u64>),
     Offsets,
@@ -123,6 +124,7 @@ enum Data {
     CzPlace,
 }
 
+#[derive(Clone)]
 struct Entry {
     tag: u16,
     ty: u16,
@@ -130,6 +132,8 @@ struct Entry {
     data: Data,
     // where an out-of-line value is said to stand, if not where it stands
     place: Option<u32>,
+    // which value of a strip array is another
+    other: Option<(usize, u64)>,
 }
 
 #[derive(Clone, Copy)]
@@ -306,7 +310,7 @@ fn scalar(r: &mut Random, tag: u16, value: u64, small: bool) -> Entry {
         values.extend((1..count).map(|_| r.next() >> r.below(64)));
     }
     let count = if 1 < count && r.chance(10) { r.of(&[1000, 0x7fff_ffff, 0xffff_ffff, 0x4000_0001]) } else { count };
-    Entry { tag, ty, count, data: Data::Values(values), place: None }
+    Entry { tag, ty, count, data: Data::Values(values), place: None, other: None }
 }
 
 struct Plan {
@@ -318,8 +322,8 @@ struct Plan {
     block_fields: Vec<usize>,
     block_pointer: Option<i64>,
     strips: Vec<Vec<u8>>,
-    // a page whose BitsPerSample stands last in the file, and how many bytes of it are missing
-    last: Option<(usize, usize)>,
+    // a page and a tag whose values stand last in the file, and how many bytes of them are missing
+    last: Option<(usize, u16, usize)>,
 }
 
 impl Plan {
@@ -596,8 +600,8 @@ fn plan(r: &mut Random, faults: Vec<Fault>, small: bool) -> Plan {
             if n != 0 || r.chance(70) {
                 let ty = if n == 0 { r.of(&[1, 2, 3, 4, 5, 12]) } else { ty };
                 let ty2 = if n == 0 { r.of(&[1, 2, 3, 4, 10, 11]) } else { ty2 };
-                e.push(Entry { tag: OFFSETS, ty, count: n, data: Data::Offsets, place: None });
-                e.push(Entry { tag: LENGTHS_TAG, ty: ty2, count: n, data: Data::Lengths, place: None });
+                e.push(Entry { tag: OFFSETS, ty, count: n, data: Data::Offsets, place: None, other: None });
+                e.push(Entry { tag: LENGTHS_TAG, ty: ty2, count: n, data: Data::Lengths, place: None, other: None });
             }
         }
         p.pages.push(Page { reduced: thumbnail, entries: e, strips, next: None });
@@ -667,7 +671,7 @@ fn cz_entry(r: &mut Random, declared: usize) -> Entry {
         types.extend([5, 10, 12]);
     }
     let ty = r.of(&types);
-    Entry { tag: CZ, ty, count: (declared / size_of(ty)) as u32, data: Data::CzPlace, place: None }
+    Entry { tag: CZ, ty, count: (declared / size_of(ty)) as u32, data: Data::CzPlace, place: None, other: None }
 }
 
 // The CZ entry, on the first directory or a later one, and others that don't win.
@@ -690,6 +694,7 @@ fn cz_entries(r: &mut Random, p: &mut Plan, declared: usize) {
         count: r.of(&[5, 28, 64, 272, 0xffff_ffff]),
         data: Data::CzPlace,
         place: Some(r.of(&[0, 8, 100, 0xffff_ffff])),
+        other: None,
     };
     if r.chance(5) {
         let j = junk(r);
@@ -716,6 +721,7 @@ fn extras(r: &mut Random, page: &mut Page, small: bool) {
             count: r.of(&[0, 1, 2, 5, 0xffff_ffff]),
             data: Data::Values(vec![r.next()]),
             place: Some(r.next() as u32),
+            other: None,
         };
         page.entries.insert(0, e);
     }
@@ -730,7 +736,7 @@ fn extras(r: &mut Random, page: &mut Page, small: bool) {
         } else if tag == OFFSETS || tag == LENGTHS_TAG {
             let n = r.below(4);
             let values = (0..n).map(|_| r.next()).collect();
-            let e = Entry { tag, ty: r.of(&[1, 3, 4]), count: n as u32, data: Data::Values(values), place: None };
+            let e = Entry { tag, ty: r.of(&[1, 3, 4]), count: n as u32, data: Data::Values(values), place: None, other: None };
             page.entries.insert(at, e);
         }
     }
@@ -828,7 +834,7 @@ fn bits(r: &mut Random, p: &mut Plan) {
         // an earlier entry, of which only the first value is read
         if r.chance(12) {
             let values = (0..r.of(&[1, 1, 2, 3, samples.clamp(1, 9)])).map(|_| r.of(&[value, value, 8, 16, 9])).collect();
-            let mut e = Entry { tag: BITS, ty: 3, count: 1, data: Data::CzPlace, place: None };
+            let mut e = Entry { tag: BITS, ty: 3, count: 1, data: Data::CzPlace, place: None, other: None };
             put_bits(r, &mut e, values);
             page.entries.insert(r.below(at + 1), e);
         }
@@ -898,7 +904,7 @@ fn uneven(r: &mut Random, p: &mut Plan) {
             let size = size_of(e[at].ty);
             if 4 < size * e[at].count as usize {
                 let missing = 1 + r.below(size * (e[at].count as usize - 1));
-                p.last = Some((page, if r.chance(60) { missing.min(size) } else { missing }));
+                p.last = Some((page, BITS, if r.chance(60) { missing.min(size) } else { missing }));
             }
         }
         // another number of channels, earlier or later in the directory, or none
@@ -944,6 +950,166 @@ fn uneven(r: &mut Random, p: &mut Plan) {
     }
 }
 
+// Whether a value that is read of an entry is negative: a scalar's first, or any of a strip array.
+fn is_below(e: &Entry, strips: &[(Where, u64)]) -> bool {
+    let below = |n: u64| n >> (8 * size_of(e.ty) - 1) & 1 == 1;
+    let place = |place: &Where| if let Where::At(n) = place { *n } else { 0 };
+    matches!(e.ty, 6 | 8 | 9)
+        && match &e.data {
+            Data::Values(v) if SCALARS.contains(&e.tag) => v.first().is_some_and(|&n| below(n)),
+            Data::Values(v) => [OFFSETS, LENGTHS_TAG].contains(&e.tag) && v.iter().any(|&n| below(n)),
+            Data::Offsets => strips.iter().any(|(at, _)| below(place(at))),
+            Data::Lengths => strips.iter().any(|&(_, n)| below(n)),
+            Data::CzPlace => false,
+        }
+}
+
+// Signed types. What is negative by chance mostly goes into a type without a sign. In 6 of a hundred files a page or two have a negative value
+// that is meant, mostly one that a reader meets. The lists of recorded answers take their files without this too.
+fn signs(r: &mut Random, p: &mut Plan) {
+    for page in &mut p.pages {
+        for e in &mut page.entries {
+            if is_below(e, &page.strips) && r.chance(90) {
+                e.ty = match e.ty {
+                    6 => r.of(&[1, 7]),
+                    8 => 3,
+                    _ => r.of(&[4, 11]),
+                };
+            }
+        }
+    }
+    if r.chance(6) && !p.pages.is_empty() {
+        for _ in 0..r.of(&[1, 1, 1, 2]) {
+            negative(r, p);
+        }
+    }
+}
+
+// A number below zero in a type, as its bits.
+fn minus(r: &mut Random, ty: u16) -> u64 {
+    let least = 1 << (8 * size_of(ty) - 1);
+    let all = least - 1;
+    let any = r.next() & all;
+    least | r.of(&[all, all, all - 7, 0, 1, any])
+}
+
+// A negative value on a page, a reduced one as often as a full one; now and then with another fault beside it, so that it shows which comes
+// first.
+fn negative(r: &mut Random, p: &mut Plan) {
+    let reduced = r.chance(50);
+    let of_sort: Vec<usize> = (0..p.pages.len()).filter(|&i| p.pages[i].reduced == reduced).collect();
+    let page = if of_sort.is_empty() { r.below(p.pages.len()) } else { r.of(&of_sort) };
+    let way = r.below(12);
+    let tags: &[u16] = match way {
+        0..=5 => &SCALARS,
+        6..=9 => &[OFFSETS, LENGTHS_TAG],
+        _ => &[BITS],
+    };
+    let e = &mut p.pages[page].entries;
+    let list: Vec<usize> = (0..e.len()).filter(|&i| tags.contains(&e[i].tag)).collect();
+    if list.is_empty() {
+        return;
+    }
+    let at = r.of(&list);
+    // as it is now, behind the other: the file would be right by the entry that counts
+    if r.chance(20) {
+        let right = e[at].clone();
+        e.insert(at + 1 + r.below(e.len() - at), right);
+    }
+    match way {
+        0..=5 => negative_scalar(r, &mut e[at], way < 4),
+        6..=9 => negative_strip(r, p, page, at),
+        _ => negative_bits(r, p, page, at),
+    }
+    if r.chance(30) {
+        beside(r, p, page);
+    }
+}
+
+// A scalar's first value; or a further one, which isn't read, or what would be negative if its type had a sign.
+fn negative_scalar(r: &mut Random, e: &mut Entry, read: bool) {
+    if read {
+        let ty = r.of(&[6, 8, 9]);
+        let mut values = vec![minus(r, ty)];
+        if r.chance(30) {
+            values.extend((0..r.of(&[1, 1, 2, 4])).map(|_| r.of(&[2, 8, 0xffff_ffff])));
+        }
+        put_values(e, ty, values);
+    } else if let Some(first) = first_of(e) {
+        let ty = if first < 128 { r.of(&[6, 8, 9, 11]) } else { r.of(&[9, 11]) };
+        let values = if ty == 11 { vec![first | 1 << 31] } else { vec![first, minus(r, ty)] };
+        put_values(e, ty, values);
+    }
+}
+
+// A value of a strip array; now and then the file ends within it, or it is of more values than the page has strips.
+fn negative_strip(r: &mut Random, p: &mut Plan, page: usize, at: usize) {
+    let strips = p.pages[page].strips.len();
+    let e = &mut p.pages[page].entries[at];
+    e.ty = r.of(&[6, 8, 9, 9]);
+    if r.chance(30) {
+        e.count = r.of(&[2, 3, 4, 100_000, 100_001]);
+    }
+    let values = (e.count as usize).clamp(1, strips + 1);
+    e.other = Some((r.below(values), minus(r, e.ty)));
+    if r.chance(25) && 1 < values {
+        p.last = Some((page, e.tag, 1 + r.below(size_of(e.ty) * (values - 1))));
+    }
+}
+
+// A further value of the bits, of as many as channels; now and then another is uneven, or the file ends within them.
+fn negative_bits(r: &mut Random, p: &mut Plan, page: usize, at: usize) {
+    let e = &mut p.pages[page].entries;
+    let samples = of_tag(e, SAMPLES).and_then(|i| first_of(&e[i])).filter(|&n| n < 70).unwrap_or(1).max(2) as usize;
+    let Some(value) = first_of(&e[at]).filter(|&n| n < 128) else { return };
+    let ty = r.of(&[6, 8, 9]);
+    let mut values = vec![value; samples];
+    values[1 + r.below(samples - 1)] = minus(r, ty);
+    if r.chance(25) {
+        values[1 + r.below(samples - 1)] = 16;
+    }
+    put_values(&mut e[at], ty, values);
+    if r.chance(20) {
+        p.last = Some((page, BITS, 1 + r.below(size_of(ty) * (samples - 1))));
+    }
+}
+
+fn put_values(e: &mut Entry, ty: u16, values: Vec<u64>) {
+    (e.ty, e.count, e.place) = (ty, values.len() as u32, None);
+    e.data = Data::Values(values);
+}
+
+// Another fault of a page: an entry that is refused before or behind, or what comes before or after all entries.
+fn beside(r: &mut Random, p: &mut Plan, page: usize) {
+    let Page { next, entries: e, .. } = &mut p.pages[page];
+    match r.below(8) {
+        0 => *next = Some(r.of(&[0xffff_ffff, 0x1_0000, 4])),
+        1..=4 => {
+            let tag = r.of(&SCALARS);
+            let mut bad = scalar(r, tag, 1, true);
+            match r.below(5) {
+                0 => bad.ty = r.of(&[0, 2, 5, 13]),
+                1 => bad.count = 0,
+                2 => put_values(&mut bad, 4, vec![65_536]),
+                3 => (bad.ty, bad.count, bad.place) = (4, 2, Some(0xffff_fff0)),
+                _ => (bad.tag, bad.ty, bad.count) = (r.of(&[OFFSETS, LENGTHS_TAG, CZ]), r.of(&[1, 13]), 0),
+            }
+            e.insert(r.below(e.len() + 1), bad);
+        }
+        5 => {
+            if let Some(i) = of_tag(e, LENGTHS_TAG) {
+                e[i].count = r.of(&[e[i].count.wrapping_add(1), e[i].count.saturating_sub(1)]);
+            }
+        }
+        6 => {
+            if let Some(i) = of_tag(e, HEIGHT) {
+                e[i].data = Data::Values(vec![r.below(5) as u64]);
+            }
+        }
+        _ => uneven(r, p),
+    }
+}
+
 fn lay(r: &mut Random, p: &Plan) -> Made {
     let mut pieces = Vec::new();
     for (i, page) in p.pages.iter().enumerate() {
@@ -963,7 +1129,7 @@ fn lay(r: &mut Random, p: &Plan) -> Made {
     let at = r.below(pieces.len() + 1);
     let at = if r.chance(50) { pieces.len() } else { at };
     pieces.insert(at, Piece::Block);
-    let last = p.last.and_then(|(page, missing)| Some((page, of_tag(&p.pages[page].entries, BITS)?, missing)));
+    let last = p.last.and_then(|(page, tag, missing)| Some((page, of_tag(&p.pages[page].entries, tag)?, missing)));
     if let Some((page, entry, _)) = last {
         let is_last = |piece: &Piece| matches!(piece, &Piece::Data(i, j) if (i, j) == (page, entry));
         if let Some(at) = pieces.iter().position(is_last) {
@@ -1041,7 +1207,7 @@ fn lay(r: &mut Random, p: &Plan) -> Made {
             set(f, here + 2, &bytes_of(p.big, e.ty as u64, 2));
             set(f, here + 4, &bytes_of(p.big, e.count as u64, 4));
             let size = size_of(e.ty);
-            let values: Vec<u64> = match &e.data {
+            let mut values: Vec<u64> = match &e.data {
                 Data::Values(v) => v.clone(),
                 Data::Offsets => page
                     .strips
@@ -1054,6 +1220,10 @@ fn lay(r: &mut Random, p: &Plan) -> Made {
                 Data::Lengths => page.strips.iter().map(|s| s.1).collect(),
                 Data::CzPlace => Vec::new(),
             };
+            if let Some((which, value)) = e.other {
+                values.resize(values.len().max(which + 1), 8);
+                values[which] = value;
+            }
             let mut bytes = Vec::new();
             for v in values.iter().take(e.count as usize) {
                 bytes.extend(&*bytes_of(p.big, *v, size));
@@ -1126,15 +1296,16 @@ fn lay(r: &mut Random, p: &Plan) -> Made {
     made
 }
 
-// A file with as many faults; with several values of BitsPerSample where they are asked for.
-fn build(r: &mut Random, faults: usize, small: bool, several: bool) -> Made {
+// A file with as many faults; with several values of BitsPerSample and with negative values where later rules are asked for.
+fn build(r: &mut Random, faults: usize, small: bool, later: bool) -> Made {
     let mut list = Vec::new();
     for _ in 0..faults {
         list.push(r.of(&FAULTS));
     }
     let mut p = plan(r, list, small);
-    if several {
+    if later {
         bits(r, &mut p);
+        signs(r, &mut p);
     }
     lay(r, &p)
 }
@@ -1310,22 +1481,22 @@ pub fn listed(seed: u64, case: u64) -> Vec<u8> {
     made(seed, case, false)
 }
 
-fn made(seed: u64, case: u64, several: bool) -> Vec<u8> {
+fn made(seed: u64, case: u64, later: bool) -> Vec<u8> {
     let mut r = Random::of_case(seed, case, 0);
     match r.below(100) {
         0..=64 => {
             let faults = r.of(&[0, 0, 0, 0, 0, 0, 0, 1, 1, 1, 2]);
-            build(&mut r, faults, false, several).file
+            build(&mut r, faults, false, later).file
         }
         65..=78 => {
-            let mut m = build(&mut r, 0, false, several);
+            let mut m = build(&mut r, 0, false, later);
             for _ in 0..r.of(&[1, 1, 2]) {
                 edit(&mut r, &mut m);
             }
             m.file
         }
         79..=88 => {
-            let mut f = build(&mut r, 0, false, several).file;
+            let mut f = build(&mut r, 0, false, later).file;
             for _ in 0..r.of(&[1, 1, 1, 2, 4]) {
                 let at = r.below(f.len());
                 f[at] = if r.chance(50) { f[at] ^ (1 << r.below(8)) } else { r.next() as u8 };
@@ -1333,13 +1504,13 @@ fn made(seed: u64, case: u64, several: bool) -> Vec<u8> {
             f
         }
         89..=93 => {
-            let mut f = build(&mut r, 0, false, several).file;
+            let mut f = build(&mut r, 0, false, later).file;
             let n = r.below(f.len() + 1);
             f.truncate(if r.chance(50) { n } else { f.len() - n.min(r.below(30)) });
             f
         }
         94..=98 => {
-            let mut m = build(&mut r, 0, false, several);
+            let mut m = build(&mut r, 0, false, later);
             relink(&mut r, &mut m);
             m.file
         }

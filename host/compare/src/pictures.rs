@@ -214,7 +214,7 @@ pub fn record(list: &mut List, seed: u64, count: usize) {
             let rect = rectangle(o.words[6], o.words[5], &mut r);
             list.picture(&f, &o, at, Some(rect), often);
         }
-        // a file that isn't opened for the bits of its channels has no pictures
+        // a file that the host's own rules refuse has no pictures
         if bits::found(&f, &w).refusal.is_some() {
             list.back(mark);
         }

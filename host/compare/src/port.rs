@@ -1,4 +1,5 @@
 // The reader that is compared with the original, at the level of the C interface's words.
+use crate::negative::Signs;
 use crate::pixels::Pixels;
 use crate::standin::{CHANNEL_WORDS, DESCRIPTION_WORDS, OPEN_WORDS, PICTURE_WORDS, Past, StandIn};
 use crate::uneven::Bits;
@@ -199,9 +200,28 @@ fn bits(fault: usize) -> Bits {
     }
 }
 
+// What a faulty port does with negative values.
+fn signs(fault: usize) -> Signs {
+    match fault {
+        51 => Signs::Wide,
+        52 => Signs::Float,
+        53 => Signs::AfterLimit,
+        54 => Signs::FullPages,
+        55 => Signs::Winners,
+        56 => Signs::Range,
+        57 => Signs::Last,
+        58 => Signs::AfterComparison,
+        59 => Signs::Further,
+        60 => Signs::Place,
+        61 => Signs::Bytes,
+        62 => Signs::AtEnd,
+        _ => Signs::Right,
+    }
+}
+
 // 1 to 10 are faults of opening, 11 to 15 of channel lookup, 16 to 24 of pictures, 25 to 28 of series; of interleaved channels 29 to 36 are
 // faults of pictures (pixels.rs says which), 37 to 40 of opening and 41 of words that are no description; 42 to 50 are faults of the bits of
-// several channels (uneven.rs).
+// several channels (uneven.rs), 51 to 62 of negative values (negative.rs).
 impl Port for Faulty {
     fn name(&self) -> &'static str {
         "faulty"
@@ -212,8 +232,8 @@ impl Port for Faulty {
     }
 
     fn open(&mut self, file: &[u8], table: &mut [usize], answer: &mut [usize; OPEN_WORDS]) -> usize {
-        self.beside.bits = bits(self.fault);
-        if self.beside.bits != Bits::Right {
+        (self.beside.bits, self.beside.signs) = (bits(self.fault), signs(self.fault));
+        if self.beside.bits != Bits::Right || self.beside.signs != Signs::Right {
             return self.beside.open(file, table, answer);
         }
         let before = *answer;

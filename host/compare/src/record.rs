@@ -105,8 +105,8 @@ impl List {
         [self.most_numbers, self.most_bytes] = mark.most;
     }
 
-    // The lines of a file. Of one that the rule for the bits of several channels refuses, that refusal takes the place of those that the
-    // original would have.
+    // The lines of a file. Of one that the host's own rules refuse (bits.rs, signs.rs), that refusal takes the place of those that the original
+    // would have.
     fn file(&mut self, file: &[u8], w: &Walk) {
         let mark = self.mark();
         self.as_original(file, w);

@@ -148,8 +148,8 @@ impl Small {
         self.strips(&strips)
     }
 
-    // With these BitsPerSample values on the last page: in the entry where they fit, otherwise behind the data.
-    fn bits(mut self, ty: u64, values: &[u64]) -> Small {
+    // With these values in the last page's first entry of a tag: in the entry where they fit, otherwise behind the data.
+    fn values(mut self, tag: u64, ty: u64, values: &[u64]) -> Small {
         let bytes = self.numbers(ty, values);
         let mut value = (BLOCK + 4 * self.cz.len() + self.data.len()) as u64;
         match <[u8; 4]>::try_from([&bytes[..], &[0; 3]].concat()[..4].to_vec()) {
@@ -160,15 +160,24 @@ impl Small {
             Ok(field) => value = u32::from_le_bytes(field) as u64,
             Err(short) => panic!("{short:?}"),
         }
-        self.with(BITS, |e| (e.ty, e.count, e.value) = (ty, values.len() as u64, value))
+        self.with(tag, |e| (e.ty, e.count, e.value) = (ty, values.len() as u64, value))
+    }
+
+    // With these BitsPerSample values.
+    fn bits(self, ty: u64, values: &[u64]) -> Small {
+        self.values(BITS, ty, values)
     }
 
     // The file with such values behind all else, of which so many bytes are missing.
-    fn bits_at_end(self, ty: u64, values: &[u64], missing: usize) -> Vec<u8> {
+    fn values_at_end(self, tag: u64, ty: u64, values: &[u64], missing: usize) -> Vec<u8> {
         let bytes = self.numbers(ty, values);
         let at = self.bytes().len() as u64;
-        let f = self.with(BITS, |e| (e.ty, e.count, e.value) = (ty, values.len() as u64, at));
+        let f = self.with(tag, |e| (e.ty, e.count, e.value) = (ty, values.len() as u64, at));
         [&f.bytes()[..], &bytes[..bytes.len() - missing]].concat()
+    }
+
+    fn bits_at_end(self, ty: u64, values: &[u64], missing: usize) -> Vec<u8> {
+        self.values_at_end(BITS, ty, values, missing)
     }
 
     // The bytes of values of a type.
@@ -502,7 +511,7 @@ fn interleaved(list: &mut Vec<Vec<u8>>) {
 // Bits stated for each channel, with the number that opening answers: "On a full page the count must be 1 or SamplesPerPixel (0 taken as 1), and
 // all values equal. [..] The other values are read only when the count is SamplesPerPixel, in turn, each compared before the next; one past
 // the file is 1."
-pub fn bits() -> Vec<(Vec<u8>, usize)> {
+pub fn bits() -> Answered {
     let mut list = Vec::new();
     values_and_counts(&mut list);
     pages_of_bits(&mut list);
@@ -510,7 +519,7 @@ pub fn bits() -> Vec<(Vec<u8>, usize)> {
     list
 }
 
-type Answered = Vec<(Vec<u8>, usize)>;
+pub type Answered = Vec<(Vec<u8>, usize)>;
 
 fn values_and_counts(list: &mut Answered) {
     let mut add = |f: Small, number| list.push((f.bytes(), number));
@@ -597,6 +606,244 @@ fn bits_in_turn(list: &mut Answered) {
     add(chunky(3).with(COUNTS, |e| e.count = 2).bits_at_end(3, &[8; 3], 1), 2);
     let page = chunky(3).cz(Z, 2).page().value(SAMPLES, 3).value(COUNTS, 6);
     add(page.value(HEIGHT, 2).bits_at_end(3, &[8; 3], 1), 1);
+}
+
+// Signed entry types, with the number that opening answers: "Types 6, 8 and 9 are to be read as two's complement [..] 9, a negative value, [..]
+// as soon as that value is read: a scalar in its entry's turn, an array value by value, a further bits value before it is compared."
+pub fn signs() -> Answered {
+    let mut list = Vec::new();
+    negative_scalars(&mut list);
+    negative_arrays(&mut list);
+    negative_bits(&mut list);
+    signs_in_turn(&mut list);
+    list
+}
+
+const SBYTE: u64 = 6;
+const SSHORT: u64 = 8;
+const SLONG: u64 = 9;
+const FLOAT: u64 = 11;
+
+// A number below zero, of which the low bytes are stored.
+fn minus(n: u64) -> u64 {
+    n.wrapping_neg()
+}
+
+// The small file without the scalars whose absence says the same; and with a page more of that sort.
+fn lean() -> Small {
+    thinned(small())
+}
+
+fn thinned(f: Small) -> Small {
+    [SAMPLES, COMPRESSION, PLANAR, FORMAT].into_iter().fold(f, |f, tag| f.without(tag))
+}
+
+fn lean_page(f: Small) -> Small {
+    thinned(f.cz(Z, 2).page())
+}
+
+// A page that has nothing but its width, and so is 3 once its entries are read: enough for what is refused earlier.
+fn bare() -> Small {
+    let width = Entry { tag: WIDTH, ty: 3, count: 1, value: 2 };
+    Small { cz: Vec::new(), data: Vec::new(), pages: vec![vec![width]], ..small() }
+}
+
+fn negative_scalars(list: &mut Answered) {
+    let mut add = |f: Small, number| list.push((f.bytes(), number));
+    // with a scalar's value in a type, before all other entries
+    let first = |mut f: Small, tag: u64, ty: u64, value: u64| {
+        f.pages[0].insert(0, Entry { tag, ty, count: 1, value: 0 });
+        f.values(tag, ty, &[value])
+    };
+    // each scalar, also where a number above 65,535 is refused
+    for (tag, ty) in [SUBFILE, WIDTH, HEIGHT, PLANAR].into_iter().zip([SLONG, SSHORT, SBYTE, SLONG]) {
+        add(first(bare(), tag, ty, minus(1)), 9);
+    }
+    for tag in [BITS, COMPRESSION, SAMPLES, FORMAT] {
+        add(first(bare(), tag, SLONG, minus(1)), 9);
+    }
+    add(first(bare(), COMPRESSION, SLONG, 65_536), 2);
+    add(first(bare(), COMPRESSION, SSHORT, minus(1)), 9);
+    add(first(lean(), SUBFILE, SBYTE, minus(1)), 9);
+    // the sign is the top bit of the type's own width; the value stands at the field's start
+    for big in [false, true] {
+        for (ty, value, number) in [
+            (SBYTE, 127, 0),
+            (SBYTE, 128, 9),
+            (SBYTE, 255, 9),
+            (SSHORT, 255, 0),
+            (SSHORT, 0x7fff, 0),
+            (SSHORT, 0x8000, 9),
+            (SLONG, 0xffff, 0),
+            (SLONG, 0x7fff_ffff, 0),
+            (SLONG, 1 << 31, 9),
+            (FLOAT, 0xffff_ffff, 0),
+        ] {
+            if !big || [128, 255, 0x8000, 1 << 31].contains(&value) {
+                add(first(Small { big, ..if number == 9 { bare() } else { lean() } }, PLANAR, ty, value), number);
+            }
+        }
+    }
+    // other types have none; this width isn't the CZ block's
+    add(first(lean(), PLANAR, 7, 255), 0);
+    add(first(lean(), PLANAR, 4, 0xffff_ffff), 0);
+    add(lean().values(WIDTH, FLOAT, &[1 << 31 | 2]), 2);
+    // zero and above as before
+    add(lean().values(WIDTH, SBYTE, &[2]).values(HEIGHT, SLONG, &[1]).values(BITS, SSHORT, &[8]), 0);
+    add(Small { big: true, ..lean() }.values(WIDTH, SSHORT, &[2]).values(HEIGHT, SBYTE, &[1]).values(BITS, SLONG, &[8]), 0);
+    // only the first value is read, in line and out of line
+    for ty in [SBYTE, SSHORT, SLONG] {
+        add(lean().values(WIDTH, ty, &[2, minus(1)]), 0);
+        add(bare().values(WIDTH, ty, &[minus(1), 2]), 9);
+    }
+    // an entry that a later one overrules, and a later one
+    add(lean().values(WIDTH, SSHORT, &[minus(1)]).entry(WIDTH, 3, 1, 2), 9);
+    add(bare().entry(WIDTH, SLONG, 1, minus(1)), 9);
+    // a reduced page's
+    add(lean().reduced().entry(WIDTH, SLONG, 1, minus(1)), 9);
+    add(lean().reduced().entry(WIDTH, SLONG, 1, 9), 0);
+    // a tag that isn't read, and the CZ entry: its field is a place, whatever the type, also one past the file
+    add(lean().entry(CZ + 1, SLONG, 1, minus(1)), 0);
+    add(lean().with(CZ, |e| (e.ty, e.count) = (SLONG, 7)), 0);
+    add(lean().with(CZ, |e| (e.ty, e.count, e.value) = (SLONG, 7, 0xffff_fff0)), 2);
+    // nor the CZ block's own numbers
+    add(lean().cz(T, minus(1)), 3);
+}
+
+fn negative_arrays(list: &mut Answered) {
+    let strips = |places: &[u64]| lean().strips(&places.iter().map(|&at| (at, 1)).collect::<Vec<_>>());
+    // a page that has nothing but a strip array
+    let alone = |tag| {
+        let mut f = bare();
+        f.pages[0][0].tag = tag;
+        f
+    };
+    let mut add = |f: Vec<u8>, number| list.push((f, number));
+    add(lean().values(OFFSETS, SLONG, &[minus(1)]).bytes(), 9);
+    for (tag, ty) in [(OFFSETS, SSHORT), (OFFSETS, SBYTE), (COUNTS, SLONG)] {
+        add(alone(tag).values(tag, ty, &[minus(1)]).bytes(), 9);
+    }
+    add(lean().values(OFFSETS, SLONG, &[36]).values(COUNTS, SBYTE, &[2]).bytes(), 0);
+    // a FLOAT's or a LONG's strip outside the file
+    add(lean().values(OFFSETS, FLOAT, &[0xffff_ffff]).bytes(), 0);
+    add(lean().values(OFFSETS, 4, &[0xffff_ffff]).bytes(), 0);
+    // each place of the value, in line and out of line
+    for at in 0..3 {
+        let mut values = [36; 3];
+        values[at] = minus(7);
+        for (ty, big) in [(SBYTE, true), (SSHORT, false), (SLONG, at == 1)] {
+            add(Small { big, ..alone(OFFSETS) }.values(OFFSETS, ty, &values).bytes(), 9);
+        }
+    }
+    add(strips(&[36; 3]).values(OFFSETS, SSHORT, &[36; 3]).bytes(), 0);
+    add(alone(OFFSETS).values(OFFSETS, SSHORT, &[36, minus(1)]).bytes(), 9);
+    add(Small { big: true, ..alone(COUNTS) }.values(COUNTS, SSHORT, &[minus(1), 1]).bytes(), 9);
+    // value by value, where the file ends within them
+    add(alone(OFFSETS).values_at_end(OFFSETS, SLONG, &[minus(1), 8], 1), 9);
+    add(alone(OFFSETS).values_at_end(OFFSETS, SLONG, &[8, minus(1)], 1), 1);
+    add(alone(OFFSETS).values_at_end(OFFSETS, SLONG, &[8, minus(1), 8], 1), 9);
+    add(alone(COUNTS).values_at_end(COUNTS, SSHORT, &[8, minus(1), 8], 4), 1);
+    // the type, the number of values and the limit of strips come before any value
+    let array = |ty, count| alone(OFFSETS).with(OFFSETS, |e| (e.ty, e.count, e.value) = (ty, count, minus(1))).bytes();
+    add(array(10, 1), 2);
+    add(array(13, 1), 2);
+    add(array(SLONG, 0), 3);
+    for (count, number) in [(100_000, 9), (100_001, 2)] {
+        let at = alone(OFFSETS).bytes().len() as u64;
+        let f = alone(OFFSETS).with(OFFSETS, |e| (e.ty, e.count, e.value) = (SLONG, count, at));
+        add([f.bytes(), vec![0xff; 4]].concat(), number);
+    }
+    // unequal arrays come later; then an entry that is overruled, and a reduced page's
+    add(lean().values(OFFSETS, SSHORT, &[36, minus(1)]).bytes(), 9);
+    add(lean().values(OFFSETS, SLONG, &[minus(1)]).entry(OFFSETS, 3, 1, 36).bytes(), 9);
+    let reduced = |ty, value| lean().reduced().entry(OFFSETS, ty, 1, value).entry(COUNTS, 3, 1, 1).bytes();
+    add(reduced(SLONG, minus(1)), 9);
+    add(reduced(SLONG, 8), 0);
+    add(lean().reduced().entry(OFFSETS, SLONG, 0, minus(1)).bytes(), 0);
+}
+
+fn negative_bits(list: &mut Answered) {
+    let chunky = |n: u64| chunky(n).without(COMPRESSION).without(PLANAR).without(FORMAT);
+    let mut add = |f: Small, number| list.push((f.bytes(), number));
+    // before it is compared; of a wrong count nothing more is read
+    for (ty, big) in [(SBYTE, false), (SSHORT, true), (SLONG, false)] {
+        add(Small { big, ..chunky(2) }.bits(ty, &[8, minus(8)]), 9);
+        add(Small { big, ..chunky(2) }.bits(ty, &[8, 8]), 0);
+    }
+    add(lean().bits(SBYTE, &[8, minus(8)]), 8);
+    add(chunky(3).bits(SBYTE, &[8, minus(8)]), 8);
+    add(chunky(2).bits(FLOAT, &[8, 1 << 31 | 8]), 8);
+    // in turn
+    add(chunky(3).bits(SSHORT, &[8, minus(8), 16]), 9);
+    add(chunky(3).bits(SSHORT, &[8, 16, minus(8)]), 8);
+    add(chunky(3).bits(SLONG, &[8, 8, minus(8)]), 9);
+    // the first value in its entry's turn
+    add(chunky(2).bits(SBYTE, &[minus(8), 8]).with(COUNTS, |e| e.count = 2), 9);
+    add(lean().bits(SBYTE, &[minus(8), 8]), 9);
+    // of several entries only the last has further values
+    add(lean().bits(SBYTE, &[8, minus(8)]).entry(BITS, 3, 1, 8), 0);
+    add(lean().bits(SBYTE, &[minus(8), 8]).entry(BITS, 3, 1, 8), 9);
+    // the channels' number is below zero: not a wrong count
+    add(chunky(2).bits(3, &[8, 8]).values(SAMPLES, SBYTE, &[minus(2)]), 9);
+    // a reduced page's further values aren't read
+    let reduced = lean().reduced().entry(BITS, 3, 1, 8).entry(SAMPLES, 3, 1, 2);
+    add(reduced.clone().bits(SBYTE, &[8, minus(8)]), 0);
+    add(reduced.bits(SBYTE, &[minus(8), 8]), 9);
+    // after the strip arrays' lengths, before the geometry
+    add(chunky(2).bits(SBYTE, &[8, minus(8)]).with(COUNTS, |e| e.count = 2), 2);
+    let two = lean_page(chunky(2)).entry(SAMPLES, 3, 1, 2).value(HEIGHT, 2);
+    add(two.bits(SBYTE, &[8, minus(8)]), 9);
+    // where the file ends within them
+    let mut add = |missing, values: &[u64], number| list.push((chunky(3).bits_at_end(SSHORT, values, missing), number));
+    add(2, &[8, minus(8), 8], 9);
+    add(3, &[8, minus(8), 8], 1);
+    add(1, &[8, 8, minus(8)], 1);
+}
+
+// The place in the order: along the entries, and along the chain.
+fn signs_in_turn(list: &mut Answered) {
+    let mut add = |f: Small, number| list.push((f.bytes(), number));
+    let negative = |f: Small| f.entry(HEIGHT, SLONG, 1, minus(1));
+    // an entry before it, and one behind it
+    add(negative(bare().entry(WIDTH, 13, 1, 2)), 2);
+    add(negative(bare()).entry(WIDTH, 13, 1, 2), 9);
+    add(negative(bare().entry(COMPRESSION, 4, 1, 65_536)), 2);
+    add(negative(bare()).entry(COMPRESSION, 4, 1, 65_536), 9);
+    add(negative(bare().entry(WIDTH, 3, 3, 0xffff)), 1);
+    add(negative(bare()).entry(WIDTH, 3, 3, 0xffff), 9);
+    add(negative(bare().entry(CZ, 1, 4, 0)), 2);
+    add(negative(bare().entry(OFFSETS, 4, 2, 0xffff)), 1);
+    add(negative(bare().entry(OFFSETS, 4, 100_001, 8)), 2);
+    // the same entry: its type, its count, its place
+    for (ty, count, number) in [(13, 1, 2), (2, 1, 2), (SLONG, 0, 2), (SLONG, 2, 1)] {
+        add(bare().entry(HEIGHT, ty, count, minus(1)), number);
+    }
+    // the directory's next pointer, or a part of it, isn't in the file
+    for cut in [1, 4] {
+        add(Small { cut, ..negative(bare()) }, 1);
+    }
+    // where it leads comes later: outside the file here
+    let mut outside = bare();
+    outside.pages.push(Vec::new());
+    add(Small { cut: 5, ..outside.clone() }, 1);
+    outside.pages[0].push(Entry { tag: HEIGHT, ty: SLONG, count: 1, value: minus(1) });
+    add(Small { cut: 5, ..outside }, 9);
+    // unequal arrays, other faults of the whole file
+    add(negative(lean().with(COUNTS, |e| e.count = 2)), 9);
+    add(negative(lean().entry(COMPRESSION, 3, 1, 5).without(CZ)), 9);
+    // two pages: what the first is refused for, then the second's entries, then what the pages are held to
+    let two = lean_page;
+    let uneven = || lean().bits(3, &[8, 8]);
+    add(negative(two(uneven())), 8);
+    add(two(negative(lean())).bits(3, &[8, 8]), 9);
+    add(negative(two(lean()).value(WIDTH, 3)), 9);
+    add(negative(two(two(lean()).value(WIDTH, 3))), 3);
+    add(negative(two(two(lean()).with(OFFSETS, |e| e.count = 2).with(COUNTS, |e| e.count = 2))), 2);
+    add(negative(two(lean()).with(OFFSETS, |e| e.count = 2)), 9);
+    add(negative(two(lean().with(OFFSETS, |e| e.count = 2))), 2);
+    // a chain that comes back is followed once before it is 1
+    add(negative(two(lean())).back(0), 9);
+    add(two(lean().values(WIDTH, SLONG, &[2])).back(0), 1);
 }
 
 // A file that ends with this channel block, or with as much as there is of one.
@@ -1110,6 +1357,6 @@ pub fn files() -> Vec<Vec<u8>> {
     times(&mut list);
     interleaved(&mut list);
     channel_blocks(&mut list);
-    list.extend(bits().into_iter().map(|(file, _)| file));
+    list.extend(bits().into_iter().chain(signs()).map(|(file, _)| file));
     list
 }

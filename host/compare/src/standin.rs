@@ -1,6 +1,8 @@
 // A stand-in for the library: it answers with the words of the C interface what a copy of the original answers. With the original
 // itself it shows that the comparison is sound; with an edited copy, that a broken rule is noticed. Pictures of interleaved channels, which
-// the original doesn't have, it reads by a way of its own (pixels.rs), and of the bits of several channels it has a rule of its own (uneven.rs).
+// the original doesn't have, it reads by a way of its own (pixels.rs), and it has rules of its own for the bits of several channels (uneven.rs)
+// and for negative values (negative.rs).
+use crate::negative::Signs;
 use crate::pixels::{Call, Pixels};
 use crate::twin::twin;
 use crate::uneven::{self, Bits};
@@ -30,6 +32,7 @@ pub struct StandIn {
     pub past: Past,
     pub pixels: Pixels,
     pub bits: Bits,
+    pub signs: Signs,
     memory: Memory,
     file: Vec<u8>,
     found: Option<Result<Opened, Refused>>,
@@ -99,8 +102,8 @@ impl StandIn {
             self.file.extend(file);
             let w = walk(file);
             let says = |number, text: &str| Err(Refused { row: [number, 0, 0, 0, 0], text: text.to_string() });
-            let mut found = match uneven::refusal(file, self.bits) {
-                Some(number) => says(number, "bits"),
+            let mut found = match uneven::refusal(file, self.bits, self.signs) {
+                Some(number) => says(number, "bits and signs"),
                 None => {
                     let twin = |sort: Sort| twin(file, &w, sort.series, sort.interleaved);
                     let Judged { answer, .. } = probe::judged(&mut self.memory, file, twin);

@@ -9,7 +9,8 @@
 //   pages were found to agree, and the two numbers to be equal. All strips of a page are that channel's, as they are every channel's here, and
 //   they must only be more than none. Several channels always state SamplesPerPixel, so there is a value to change.
 //
-// A series of interleaved channels has a twin with both.
+// A series of interleaved channels has a twin with both. A file that the host itself refuses (bits.rs, signs.rs) is asked for none: all entries
+// come before the CZ block's T and the channels. So it doesn't count whether a number that is changed was negative, or stands in a signed type.
 use crate::walk::{number, Walk, SAMPLES};
 
 // Places and bytes of the numbers that are other than the file's, and the twin's.

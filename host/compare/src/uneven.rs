@@ -1,5 +1,7 @@
 // The stand-in's rule for the bits that are stated for each channel, and what faulty ports make of it: the rule of bits.rs once more, in the
 // way of a reader that keeps what it needs while it goes through a directory's entries.
+use crate::negative::{Kept, Reader, Signs, Stop};
+use crate::walk::is_tiff;
 use other::probe;
 use std::collections::HashSet;
 
@@ -27,69 +29,13 @@ pub enum Bits {
     Overruled,
 }
 
-// What is kept of a directory: SUBFILE, SamplesPerPixel, and of BitsPerSample the last entry's values and the first entry's first.
-#[derive(Default)]
-struct Kept {
-    subfile: u64,
-    samples: u64,
-    bits: Option<Values>,
-    overruled: Option<u64>,
-    next: u64,
-}
-
-struct Values {
-    at: u64,
-    size: u64,
-    count: u64,
-    // SamplesPerPixel when the entry was read
-    samples: u64,
-}
-
-struct Reader<'a> {
-    file: &'a [u8],
+// The rule over a reader of directories (negative.rs).
+struct Checker<'a> {
+    reader: Reader<'a>,
     rule: Bits,
 }
 
-impl Reader<'_> {
-    fn read(&self, at: u64, size: u64) -> Option<u64> {
-        let bytes = self.file.get(at as usize..(at + size) as usize)?;
-        let mut eight = [0; 8];
-        if self.file[0] == b'M' {
-            eight[8 - bytes.len()..].copy_from_slice(bytes);
-            Some(u64::from_be_bytes(eight))
-        } else {
-            eight[..bytes.len()].copy_from_slice(bytes);
-            Some(u64::from_le_bytes(eight))
-        }
-    }
-
-    fn directory(&self, place: u64) -> Option<Kept> {
-        let mut kept = Kept { samples: 1, ..Kept::default() };
-        let entries = self.read(place, 2)?;
-        for entry in (0..entries).map(|i| place + 2 + 12 * i) {
-            let tag = self.read(entry, 2)?;
-            let count = self.read(entry + 4, 4)?;
-            let size = match self.read(entry + 2, 2)? {
-                3 | 8 => 2,
-                4 | 9 | 11 => 4,
-                _ => 1,
-            };
-            let at = if size * count <= 4 { entry + 8 } else { self.read(entry + 8, 4)? };
-            match tag {
-                254 => kept.subfile = self.read(at, size)?,
-                277 => kept.samples = self.read(at, size)?,
-                258 => {
-                    let first = self.read(at, size)?;
-                    kept.overruled.get_or_insert(first);
-                    kept.bits = Some(Values { at, size, count, samples: kept.samples });
-                }
-                _ => {}
-            }
-        }
-        kept.next = self.read(place + 2 + 12 * entries, 4)?;
-        Some(kept)
-    }
-
+impl Checker<'_> {
     fn refusal(&self, kept: &Kept) -> Option<usize> {
         let v = kept.bits.as_ref()?;
         let samples = if self.rule == Bits::AsRead { v.samples } else { kept.samples };
@@ -99,15 +45,18 @@ impl Reader<'_> {
         if v.count != samples.max(1) && self.rule != Bits::AnyCount {
             return Some(8);
         }
-        if self.rule == Bits::Range && (self.file.len() as u64) < v.at + v.size * v.count {
+        let value = |i: u64| self.reader.value(v.ty, v.at, i);
+        if self.rule == Bits::Range && value(v.count - 1).is_none() {
             return Some(1);
         }
         let mask = if self.rule == Bits::Cut { 0xffff } else { u64::MAX };
-        let first = if self.rule == Bits::Overruled { kept.overruled? } else { self.read(v.at, v.size)? };
+        let first = if self.rule == Bits::Overruled { kept.overruled? } else { value(0)?.0 };
+        let compared_first = self.reader.signs == Signs::AfterComparison;
         for i in 1..if self.rule == Bits::Second { 2 } else { v.count } {
-            match self.read(v.at + i * v.size, v.size) {
+            match value(i) {
                 None => return Some(1),
-                Some(other) if other & mask != first & mask => return Some(8),
+                Some((_, true)) if !compared_first => return Some(9),
+                Some((other, _)) if other & mask != first & mask => return Some(8),
                 Some(_) => {}
             }
         }
@@ -115,26 +64,33 @@ impl Reader<'_> {
     }
 }
 
-// 8 or 1, where the rule refuses the file. Otherwise the original's answer stands.
-pub fn refusal(file: &[u8], rule: Bits) -> Option<usize> {
-    let reader = Reader { file, rule };
+// 8, 9 or 1, where the rules refuse the file. Otherwise the original's answer stands.
+pub fn refusal(file: &[u8], rule: Bits, signs: Signs) -> Option<usize> {
+    if !is_tiff(file) {
+        return None;
+    }
+    let checker = Checker { reader: Reader { file, signs }, rule };
     let mut seen = HashSet::new();
     let mut first = None;
-    let mut at = reader.read(4, 4)?;
+    let mut at = checker.reader.read(4, 4)?;
     while at != 0 && seen.len() < 1_000_000 && seen.insert(at) {
+        let kept = match checker.reader.directory(at) {
+            Ok(kept) => kept,
+            Err(Stop::Negative) => return Some(9),
+            Err(Stop::Original) => return None,
+        };
         let stated = match probe::directory(file, at as usize) {
             Ok(stated) => Some(stated),
             Err(refused) if rule == Bits::BeforeArrays && refused.text.contains("strip offsets vs") => None,
             Err(_) => return None,
         };
-        let kept = reader.directory(at)?;
         let full = kept.subfile & 5 == 0;
         let differs = full && first.is_some_and(|first| stated.is_some_and(|stated| stated != first));
         if differs && rule == Bits::AfterAgreement {
             return None;
         }
         if full || rule == Bits::Reduced {
-            let refusal = reader.refusal(&kept);
+            let refusal = checker.refusal(&kept);
             if refusal.is_some() {
                 return refusal;
             }

@@ -26,6 +26,11 @@ pub fn size_of(ty: u64) -> u64 {
     }
 }
 
+// Whether a file begins with a header: the order's mark and 42.
+pub fn is_tiff(file: &[u8]) -> bool {
+    8 <= file.len() && (file.starts_with(b"II\x2a\0") || file.starts_with(b"MM\0\x2a"))
+}
+
 pub fn walk(file: &[u8]) -> Walk {
     let mut w = Walk { visited: 0, circle: false, cz: None, big: file.starts_with(b"M") };
     follow(file, &mut w);
@@ -58,13 +63,13 @@ fn follow(file: &[u8], w: &mut Walk) -> Option<()> {
 }
 
 // The tags of scalars that opening reads, and of strip arrays.
-const SCALARS: [u64; 8] = [SUBFILE, 256, 257, BITS, 259, SAMPLES, PLANAR, 339];
-const ARRAYS: [u64; 2] = [273, 279];
+pub const SCALARS: [u64; 8] = [SUBFILE, 256, 257, BITS, 259, SAMPLES, PLANAR, 339];
+pub const ARRAYS: [u64; 2] = [273, 279];
 const SUBFILE: u64 = 254;
 pub const BITS: u64 = 258;
 pub const SAMPLES: u64 = 277;
 pub const PLANAR: u64 = 284;
-const CZ: u64 = 34412;
+pub const CZ: u64 = 34412;
 
 // The numbers of a CZ block: magic, size, five dimensions, three voxel sizes, the channel block's place, P and M.
 const BLOCK: [(usize, usize); 13] =
@@ -73,7 +78,7 @@ const BLOCK: [(usize, usize); 13] =
 // Of a file whose chain is whole and ends.
 impl Walk {
     // The directories' places.
-    fn directories(&self, file: &[u8]) -> Option<Vec<usize>> {
+    pub fn directories(&self, file: &[u8]) -> Option<Vec<usize>> {
         let mut list = Vec::new();
         let mut at = number(file, 4, 4, self.big)? as usize;
         while at != 0 {
@@ -90,7 +95,7 @@ impl Walk {
     }
 
     // The places of a directory's entries.
-    fn entries(&self, file: &[u8], directory: usize) -> Option<impl DoubleEndedIterator<Item = usize>> {
+    pub fn entries(&self, file: &[u8], directory: usize) -> Option<impl DoubleEndedIterator<Item = usize>> {
         let count = number(file, directory, 2, self.big)? as usize;
         Some((0..count).map(move |i| directory + 2 + 12 * i))
     }

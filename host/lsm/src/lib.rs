@@ -1,6 +1,6 @@
 //! A safe Rust face of the LSM reader's C interface.
 //!
-//! The reader takes the bytes of a Zeiss LSM file and memory that the caller lends. It answers, or it refuses with one of eight
+//! The reader takes the bytes of a Zeiss LSM file and memory that the caller lends. It answers, or it refuses with one of nine
 //! numbers. A refusal changes no lent memory. Past an answer's end, lent memory stays as it was.
 //!
 //! ```ignore

@@ -19,6 +19,8 @@ pub enum Refusal {
     TooShort { needed: usize },
     /// 8: BitsPerSample of a full page isn't one value, nor equal values, as many as there are channels.
     UnevenBits,
+    /// 9: an entry of a signed type has a negative value.
+    NegativeValue,
 }
 
 impl Refusal {
@@ -38,6 +40,7 @@ impl Refusal {
             Refusal::OutOfRange { scene, t, c, z } => [6, scene, t, c, z],
             Refusal::TooShort { needed } => [7, needed, 0, 0, 0],
             Refusal::UnevenBits => [8, 0, 0, 0, 0],
+            Refusal::NegativeValue => [9, 0, 0, 0, 0],
         }
     }
 
@@ -53,6 +56,7 @@ impl Refusal {
             6 => Refusal::OutOfRange { scene: a, t: b, c, z: d },
             7 => Refusal::TooShort { needed: a },
             8 => Refusal::UnevenBits,
+            9 => Refusal::NegativeValue,
             _ => return None,
         };
         (refusal.row() == row).then_some(refusal)
@@ -70,6 +74,7 @@ impl fmt::Display for Refusal {
             Refusal::OutOfRange { scene, t, c, z } => write!(f, "nothing at scene {scene}, t {t}, c {c}, z {z}"),
             Refusal::TooShort { needed } => write!(f, "lent memory is too short: {needed} needed"),
             Refusal::UnevenBits => write!(f, "the channels' bits are uneven, or of another number than the channels"),
+            Refusal::NegativeValue => write!(f, "a value of an entry is negative"),
         }
     }
 }

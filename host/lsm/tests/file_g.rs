@@ -230,6 +230,112 @@ fn bits_of_three_channels() {
     assert_eq!(number(&two), 8);
 }
 
+const WIDTH: usize = 10;
+const STRIP: usize = 10 + 12 * 3;
+const BYTE_COUNT: usize = 10 + 12 * 4;
+const CZ: usize = 10 + 12 * 5;
+
+// G with an entry of this type, count and field.
+fn typed(entry: usize, ty: u16, count: u32, field: u32) -> Vec<u8> {
+    let mut f = g();
+    put16(&mut f, entry + 2, ty);
+    put32(&mut f, entry + 4, count);
+    put32(&mut f, entry + 8, field);
+    f
+}
+
+const SBYTE: u16 = 6;
+const SSHORT: u16 = 8;
+const SLONG: u16 = 9;
+const FLOAT: u16 = 11;
+
+// "A museum's converter writes strip offsets as SLONG, and one file held -1."
+#[test]
+fn a_negative_value() {
+    for file in [typed(STRIP, SLONG, 1, 0xffff_ffff), typed(WIDTH, SLONG, 1, 0xffff_ffff)] {
+        let mut table = [77; 4];
+        assert_eq!(lsm::open(&file, &mut table), Err(Refusal::NegativeValue));
+        assert_eq!(table, [77; 4]);
+        assert_eq!(lsm::open(&file, &mut []), Err(Refusal::NegativeValue));
+    }
+    // every word behind the number is 0
+    let mut answer = [77; lsm::c::OPEN_WORDS];
+    assert_eq!(lsm::c::open(&typed(STRIP, SLONG, 1, 0xffff_ffff), &mut [77; 4], &mut answer), 9);
+    assert_eq!((answer[0], answer[1..].iter().all(|&word| word == 0)), (9, true));
+}
+
+// The sign is the top bit of the type's own width, and other types have none.
+#[test]
+fn types_with_a_sign() {
+    for (ty, value) in [(SBYTE, 2), (SSHORT, 2), (SLONG, 2), (FLOAT, 2)] {
+        assert_eq!(number(&typed(WIDTH, ty, 1, value)), 0);
+        assert_eq!(number(&typed(BYTE_COUNT, ty, 1, value)), 0);
+    }
+    for (ty, top) in [(SBYTE, 0x80), (SSHORT, 0x8000), (SLONG, 1 << 31)] {
+        assert_eq!(number(&typed(BYTE_COUNT, ty, 1, top)), 9);
+        assert_eq!(number(&typed(BYTE_COUNT, ty, 1, top - 1)), 0);
+        // the same bytes in the unsigned type of that width; of a width they are 2 by the CZ block's X
+        let unsigned = match ty {
+            SBYTE => 1,
+            SSHORT => 3,
+            _ => 4,
+        };
+        assert_eq!(number(&typed(BYTE_COUNT, unsigned, 1, top)), 0);
+        assert_eq!(number(&typed(WIDTH, ty, 1, top - 1)), 2);
+        assert_eq!(number(&typed(WIDTH, ty, 1, top | 2)), 9);
+    }
+    assert_eq!(number(&typed(BYTE_COUNT, SSHORT, 1, 255)), 0);
+    assert_eq!(number(&typed(BYTE_COUNT, SBYTE, 1, 255)), 9);
+    assert_eq!(number(&typed(BYTE_COUNT, FLOAT, 1, 0xffff_ffff)), 0);
+    assert_eq!(number(&typed(WIDTH, FLOAT, 1, 1 << 31 | 2)), 2);
+    // the CZ entry's field is a place, whatever its type
+    assert_eq!(number(&typed(CZ, SLONG, 7, 88)), 0);
+    assert_eq!(number(&typed(CZ, SLONG, 7, 0xffff_fff0)), 2);
+}
+
+// Only what is read counts: of a scalar the first value, of an array each in turn.
+#[test]
+fn values_that_are_read() {
+    let two = |first: u32, second: u32| second << 16 | first;
+    assert_eq!(number(&typed(WIDTH, SSHORT, 2, two(2, 0xffff))), 0);
+    assert_eq!(number(&typed(WIDTH, SSHORT, 2, two(0xffff, 2))), 9);
+    assert_eq!(number(&typed(WIDTH, SSHORT, 0, 0xffff)), 2);
+    // before the test above 65,535, and before the strip arrays' lengths are compared
+    assert_eq!(number(&typed(BITS, SLONG, 1, 0xffff_ffff)), 9);
+    assert_eq!(number(&typed(BITS, SLONG, 1, 0x1_0000)), 2);
+    assert_eq!(number(&typed(STRIP, SSHORT, 2, two(116, 0xffff))), 9);
+    assert_eq!(number(&typed(STRIP, SSHORT, 2, two(116, 116))), 2);
+    // places 116, -1 and 116 at the file's end, cut there
+    let cut = |values: [u32; 3], missing: usize| {
+        let mut f = typed(STRIP, SLONG, 3, 118);
+        f.extend(values.iter().flat_map(|n| n.to_le_bytes()));
+        f.truncate(118 + 12 - missing);
+        number(&f)
+    };
+    assert_eq!(cut([116, 0xffff_ffff, 116], 1), 9);
+    assert_eq!(cut([116, 0xffff_ffff, 116], 4), 9);
+    assert_eq!(cut([116, 0xffff_ffff, 116], 5), 1);
+    assert_eq!(cut([116, 116, 0xffff_ffff], 1), 1);
+}
+
+// A further value of the bits is negative before it is uneven; of a wrong count none is read.
+#[test]
+fn negative_bits() {
+    assert_eq!(number(&typed(BITS, SBYTE, 2, 0xf8 << 8 | 8)), 8);
+    assert_eq!(number(&typed(BITS, SBYTE, 2, 8 << 8 | 0xf8)), 9);
+    let three = |values: [u8; 3]| {
+        let mut f = interleaved();
+        put16(&mut f, MOVED_BITS + 2, SBYTE);
+        put32(&mut f, MOVED_BITS + 4, 3);
+        f[MOVED_BITS + 8..MOVED_BITS + 11].copy_from_slice(&values);
+        number(&f)
+    };
+    assert_eq!(three([8, 8, 8]), 0);
+    assert_eq!(three([8, 0xf8, 8]), 9);
+    assert_eq!(three([8, 8, 0xf8]), 9);
+    assert_eq!(three([8, 16, 0xf8]), 8);
+}
+
 // The library looks at the flag before anything else.
 #[test]
 fn a_flag_above_1_is_no_description() {
