@@ -15,7 +15,7 @@ import os
 import re
 import sys
 
-ROWS = ('Marked', 'Table', 'Listed', 'Spare', 'Second', 'Third', 'Handed', 'Series', 'Interleaved', 'Bits')
+ROWS = ('Marked', 'Table', 'Listed', 'Spare', 'Second', 'Third', 'Handed', 'Series', 'Interleaved', 'Bits', 'Signed')
 # Words in backticks that are no names of this tree: of the language, of document 01, of contracts.
 WORDS = {'requires', 'ensures', 'room', 'lent', 'answer', 'Vec', 'Result', 'Option', 'String', 'LsmReader', 'crop', 'Strips'}
 
