@@ -21,7 +21,7 @@
  *   7         length needed                lent memory is too short and nothing else is in the way: words of the table, bytes of
  *                                          the name or of the samples; 2^64 - 1 stands for a length that passes 64 bits
  *   8         -                            BitsPerSample of a full page isn't one value, nor equal values, as many as there are channels
- *   9         -                            an entry of a signed type has a negative value
+ *   9         -                            a value that is read of an entry (SBYTE, SSHORT or SLONG) is negative
  *
  * Every call overwrites the whole of `answer`. answer[0] is the returned number, and what the table above doesn't name is 0 after a
  * refusal. A refusal leaves all other lent memory as it was. Past the end of what an accepted call writes, lent memory stays as it was.

@@ -4,7 +4,7 @@ use Prim.Native.Nat.{ℕ, zero, suc, ◌+◌, ◌*◌, ◌≤◌, ◌<◌}
 use native.Mathlib.Nat.{mul-suc, mul-zero, mul-one}
 use native.Mathlib.Omega.{arith}
 use mathlib.Core.Bool.{Bool, true, false}
-use mathlib.Core.Logic.{◌⊎◌, ◌↔◌, inl, inr}
+use mathlib.Core.Logic.{◌⊎◌, ⊎_map, ◌↔◌, inl, inr}
 use mathlib.Core.Path.{◌≡◌, refl, sym, ◌∙◌}
 use mathlib.Core.List.{List, [], ◌∷◌}
 use Rattle.std.specs.Prelude.{Some}
@@ -45,13 +45,9 @@ module _ (type size : ℕ) (o : Order) (f : List ℕ) (i : integer_size type ≡
       by true t = inr (leb-true _ _ t, omega (arith, mul-suc size n, h))
       by false t = let lt : q < p + size = leb-false _ _ t in inl (h.0, omega (arith, mul-one size))
 
-  right : {A B C : Type 0} → (B → C) → A ⊎ B → A ⊎ C
-  right g (inl a) = inl a
-  right g (inr b) = inr (g b)
-
   -- the bytes of values that were read one by one
   abbrev Bytes : ℕ → ℕ → Type 0
-  Bytes n p = (q : ℕ) → (Inside q (flat (signed_ranges n type o f p)) → (p ≤ q) × (q < p + size * n)) × ((p ≤ q) × (q < p + size * n) → Inside q (flat (signed_ranges n type o f p)))
+  Bytes n p = (q : ℕ) → Inside q (flat (signed_ranges n type o f p)) ↔ ((p ≤ q) × (q < p + size * n))
 
   signed_bytes : (n p : ℕ) → Accepting (λ (vs : List ℕ). Bytes n p) (values_at n type o f p)
   unfolding values_at signed_ranges over flat Accepting
@@ -61,7 +57,7 @@ module _ (type size : ℕ) (o : Order) (f : List ℕ) (i : integer_size type ≡
       accepting_bind _ _ _ _ (signed_bytes n (p + type_size type)) (λ vs h q.
       let others = rw (integer_size_lem type size i) at (h q) in
       rw (e, value_listed 1 p (rw mul-one (value_inside p v e)), integer_size_lem type size i)
-      ((λ k. first_or n p q (right others.0 k)), (λ k. right others.1 (or_first n p q k)))))
+      ((λ k. first_or n p q (⊎_map (λ b. b) others.0 k)), (λ k. ⊎_map (λ b. b) others.1 (or_first n p q k)))))
 
   -- values that were read one by one, one at least, are in the file
   all_inside : (n p : ℕ) → Accepting (λ (vs : List ℕ). p + size * suc n ≤ length f) (values_at (suc n) type o f p)

@@ -2,7 +2,7 @@
 use Prim.Native.Nat.{ℕ, zero, suc, ◌+◌, ◌-◌, ◌*◌, ◌≤◌, ◌<◌}
 use native.Mathlib.Nat.{add-zero, mul-zero, mul-suc}
 use native.Mathlib.Omega.{arith}
-use mathlib.Core.Bool.{Bool, true, false, not, ◌&&◌, ◌||◌, cond, true≢false}
+use mathlib.Core.Bool.{Bool, true, false, not, ◌&&◌, ◌||◌, cond, true≢false, and-false}
 use Rattle.std.specs.Prelude.{Option, None, Some, get_or, slice_get}
 use Rattle.std.proofs.lemmas.Option.{slice_get_past, unwrap_or-slice_get}
 use Rattle.std.proofs.lemmas.Bool.Decides.{nat_tests}
@@ -128,10 +128,6 @@ sign_decides true true rest e = refl
 sign_decides true false rest e = absurd (true≢false (sym e))
 sign_decides false v rest e = e
 
-no_more : (s : Bool) → (s && false) ≡ false
-no_more true = refl
-no_more false = refl
-
 module _ (type size : ℕ) (o : Order) (f : List ℕ) (i : integer_size type ≡ Some size) where
   abbrev whole : ℕ → ℕ → Bool
   whole n p = leb (p + size * n) (length f)
@@ -141,7 +137,7 @@ module _ (type size : ℕ) (o : Order) (f : List ℕ) (i : integer_size type ≡
 
   pub values_from : (n p : ℕ) → p ≤ length f → values_at n type o f p ≡ judged (negative n p) (whole n p) (values n size o f p)
   unfolding values_at values some_negative or_nought bind
-  values_from zero p h = rw (no_more (is_signed type), le-leb (p + size * 0) (length f) (omega (arith, mul-zero size))) refl
+  values_from zero p h = rw (and-false (is_signed type), le-leb (p + size * 0) (length f) (omega (arith, mul-zero size))) refl
   values_from (suc n) p h =
       by (leb (p + size) (length f)) (is_signed type && is_negative size (or_nought (number_at size o f p))) (values_from n (p + size)) refl refl
     where
@@ -152,7 +148,7 @@ module _ (type size : ℕ) (o : Order) (f : List ℕ) (i : integer_size type ≡
       by false s others t e =
           let past : length f < p + size = leb-false _ _ t in
           let short : whole (suc n) p ≡ false = lt-leb (p + size * suc n) (length f) (omega (arith, mul-suc size n)) in
-          values_stop n type size o f p i parse (value_past type size o f p i past) ∙ rw (none_past size o f (suc n) p past, no_more (is_signed type), short) refl
+          values_stop n type size o f p i parse (value_past type size o f p i past) ∙ rw (none_past size o f (suc n) p past, and-false (is_signed type), short) refl
       by true true others t e =
           let there = number_there size o f p (leb-true _ _ t) in
           values_stop n type size o f p i negative_value (value_negative type size o f p i _ there (rw there at e))
@@ -186,7 +182,7 @@ module _ (o : Order) (f : List ℕ) (type p : ℕ) where
       inside size false i t =
           let past : length f < p = leb-false _ _ t in
           values_stop n type size o f p i parse (value_past type size o f p i (omega arith))
-          ∙ rw (none_outside size o f (suc n) p past, no_more (is_signed type)) refl
+          ∙ rw (none_outside size o f (suc n) p past, and-false (is_signed type)) refl
 
       by : (s : Option ℕ) → integer_size type ≡ s → values_at (suc n) type o f p
           ≡ bind (bind (given decode s) (λ size. bind (need negative_value (not (is_signed type && some_negative (suc n) size o f p))) (λ _. accepted size))) (λ size.

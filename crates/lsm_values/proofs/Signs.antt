@@ -2,7 +2,7 @@
 use Prim.Native.Nat.{ℕ, zero, suc, ◌+◌, ◌-◌, ◌*◌, ◌/◌, ◌^◌, ◌≤◌, ◌<◌}
 use native.Mathlib.Nat.{add-zero, mul-zero, mul-suc, mul-le-mul_left}
 use native.Mathlib.Omega.{arith}
-use mathlib.Core.Bool.{Bool, true, false, ◌||◌}
+use mathlib.Core.Bool.{Bool, true, false, ◌||◌, or_assoc, or-false}
 use mathlib.Core.Logic.{◌⊎◌, inl, inr}
 use mathlib.Core.Path.{◌≡◌, refl, sym, ap}
 use mathlib.Core.List.{List}
@@ -72,14 +72,6 @@ top_of a b = by (leb 128 a) (leb 128 b) refl refl
         let lt' : b < 128 = leb-false _ _ q in
         lt-leb 128 (max a b) (omega arith)
 
-or_again : (s t u : Bool) → ((s || t) || u) ≡ (s || (t || u))
-or_again true t u = refl
-or_again false t u = refl
-
-or_none : (s : Bool) → (s || false) ≡ s
-or_none true = refl
-or_none false = refl
-
 -- the place of the next number
 pub next_place : (p size i : ℕ) → p + size * i + size ≡ p + size * (i + 1)
 next_place p size i = omega (arith, mul-suc size i, add-one i)
@@ -101,12 +93,12 @@ module _ (f : List ℕ) (n : ℕ) (w : Width) (o : Order) (p i : ℕ) where
   signs_next bytes top h k =
       let one : n - i ≡ suc (n - (i + 1)) = omega arith in
       rw (one, next_place p (bytes_of w) i, sign_of f bytes w o (p + bytes_of w * i) (place_inside n (bytes_of w) (length f) p i h k), top_of)
-      (or_again (leb 128 top) (leb 128 (get_or f (p + bytes_of w * i + sign_place w o) 0)) (some_negative (n - (i + 1)) (bytes_of w) o f (p + bytes_of w * (i + 1))))
+      (or_assoc (leb 128 top) (leb 128 (get_or f (p + bytes_of w * i + sign_place w o) 0)) (some_negative (n - (i + 1)) (bytes_of w) o f (p + bytes_of w * (i + 1))))
 
   -- no more
   pub signs_over : (top : ℕ) → n ≤ i → leb 128 top ≡ (leb 128 top || some_negative (n - i) (bytes_of w) o f (p + bytes_of w * i))
   unfolding some_negative
-  signs_over top h = let none : n - i ≡ 0 = omega arith in rw none (sym (or_none (leb 128 top)))
+  signs_over top h = let none : n - i ≡ 0 = omega arith in rw none (sym (or-false (leb 128 top)))
 
 -- ---- past the file
 

@@ -206,7 +206,7 @@ fn no_number(buf: &[u8], entry: Entry, e: Endian) -> Result<u32, Refusal>
 }
 
 // The first value of an entry whose type may be signed, or no number.
-#[cold]
+#[cold] // so that the common way has the question alone
 #[tactic(auto, unfolding(lsm_format::specs::Answer::bind), using(crate::proofs::Laws::scalar_asked))]
 fn signed_scalar(buf: &[u8], entry: Entry, e: Endian) -> Result<u32, Refusal>
     ensures { answer_of result ≡ scalar (order_of e) buf.now entry.ty entry.count entry.off }
@@ -231,7 +231,7 @@ pub fn read_scalar(buf: &[u8], entry: Entry, e: Endian) -> Result<u32, Refusal>
 }
 
 // One value of a type that may be signed, or no number.
-#[cold]
+#[cold] // as signed_scalar
 #[tactic(auto, unfolding(lsm_format::specs::Directory::value_at, lsm_format::specs::Answer::bind))]
 fn signed_value(buf: &[u8], ty: u16, off: usize, e: Endian) -> Result<u32, Refusal>
     ensures { answer_of result ≡ value_at ty (order_of e) buf.now off }
@@ -303,8 +303,9 @@ fn some_negative(buf: &[u8], place: usize, n: usize, width: Width, e: Endian) ->
 }
 
 // How an array's values are read as numbers, if their type may be signed. A value below 0 is refused where it stands before the first that passes
-// the end of the file, for which the array would be refused otherwise: so those in the file are looked at, each of them once.
-#[cold]
+// the end of the file, for which the array would be refused otherwise: so those in the file are looked at, each of them once. Of an array that
+// begins past the end there are none.
+#[cold] // as signed_scalar
 #[tactic(auto, unfolding(crate::specs::Values::signed_size, lsm_format::specs::Answer::bind), using(crate::proofs::Signs::there_all, crate::proofs::Signs::there_inside, crate::proofs::Signs::none_outside))]
 fn signed_width(buf: &[u8], values: Values, e: Endian) -> Result<Width, Refusal>
     ensures { answer_by bytes_of result ≡ signed_size (order_of e) buf.now values.ty values.count values.place }
