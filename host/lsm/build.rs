@@ -1,5 +1,6 @@
 // Links the static library of the folder that LSM_STATIC_DIR names. LSM_STATIC_NAME is the library's name, `lsm_c` where it isn't
-// set. Without LSM_STATIC_DIR the crate compiles and nothing is linked; the tests that need the library are then left out.
+// set. Without LSM_STATIC_DIR the crate compiles and nothing is linked: the tests that need the library are then left out, and the command `lsm`
+// and the example first_row say what is missing and end with status 2.
 use std::env;
 use std::path::Path;
 

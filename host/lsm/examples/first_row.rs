@@ -51,5 +51,6 @@ fn main() {
 
 #[cfg(not(lsm_static))]
 fn main() {
-    eprintln!("LSM_STATIC_DIR names the folder of liblsm_c.a; see the top of this file");
+    eprintln!("first_row: it was built without the library: LSM_STATIC_DIR names the folder of liblsm_c.a, which tools/staticlib makes");
+    std::process::exit(2);
 }
