@@ -41,7 +41,7 @@ impl File {
 }
 
 // One page of one channel of 8 bits: the directory at 8 has seven entries, the CZ block stands at 100, and from 128 on all is free.
-fn page(big: bool, w: u64, h: u64, len: usize, offsets: (u64, u64, u64), lengths: (u64, u64, u64)) -> File {
+pub fn page(big: bool, w: u64, h: u64, len: usize, offsets: (u64, u64, u64), lengths: (u64, u64, u64)) -> File {
     let mut f = File::new(big, len);
     f.put(8, 7, 2);
     f.entry(10, 256, 4, 1, w);

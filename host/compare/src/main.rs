@@ -46,6 +46,8 @@ struct Options {
     fault: usize,
     bench: bool,
     hostile: bool,
+    overlapping: Option<u64>,
+    opens: bool,
 }
 
 const USAGE: &str = "options:
@@ -62,6 +64,8 @@ const USAGE: &str = "options:
   --fault N      a port with a fault, 1 to 62, to see that it is noticed
   --bench        times of both instead of a comparison
   --hostile      times of opening hostile files
+  --overlapping N [--opens]   times of opening N directories that lie over one another, once each, in a file that is refused or that opens;
+                              999000 take minutes
   --case N       only this case: its bytes and both answers
   --file PATH    only this file
   --record DIR --count N   write the lists of recorded answers";
@@ -85,6 +89,8 @@ fn options() -> Options {
         fault: 0,
         bench: false,
         hostile: false,
+        overlapping: None,
+        opens: false,
     };
     let mut args = std::env::args().skip(1);
     while let Some(a) = args.next() {
@@ -114,6 +120,8 @@ fn options() -> Options {
             "--keep" => o.keep = number(value()),
             "--bench" => o.bench = true,
             "--hostile" => o.hostile = true,
+            "--opens" => o.opens = true,
+            "--overlapping" => o.overlapping = Some(number(value())).filter(|&n| 0 < n).or_else(|| usage()),
             _ => usage(),
         }
     }
@@ -266,6 +274,10 @@ fn main() {
     std::panic::set_hook(Box::new(|p| eprintln!("{p}")));
     if let Some(folder) = &o.record {
         record::write(folder, o.seed, o.count);
+        return;
+    }
+    if let Some(directories) = o.overlapping {
+        bench::overlapped(&mut *port::port(o.fault), directories, o.opens);
         return;
     }
     if o.hostile {
