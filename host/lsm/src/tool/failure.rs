@@ -23,6 +23,8 @@ pub enum Failure {
     Refused(Refusal),
     /// The library refuses a picture of it.
     PictureRefused(At, Refusal),
+    /// The library refuses what was asked for by number, and this is what there is.
+    RequestRefused(At, Refusal, String),
     /// The arguments, or what they ask for, can't be: in words.
     Usage(String),
     /// A file that is read or written: its name, and what is wrong.
@@ -40,7 +42,7 @@ impl Failure {
     /// The status that the tool ends with.
     pub fn status(&self) -> u8 {
         match self {
-            Failure::Refused(_) | Failure::PictureRefused(..) => REFUSED,
+            Failure::Refused(_) | Failure::PictureRefused(..) | Failure::RequestRefused(..) => REFUSED,
             Failure::Usage(_) | Failure::File(..) | Failure::NobodyReads => FAILED,
         }
     }
@@ -68,6 +70,7 @@ pub fn report(failure: &Failure, name: &[u8]) -> u8 {
     match failure {
         Failure::Refused(r) => say(name, &in_words(r)),
         Failure::PictureRefused(at, r) => say(name, &format!("{at}: {}", in_words(r))),
+        Failure::RequestRefused(at, r, there) => say(name, &format!("{at}: {}; {there}", in_words(r))),
         Failure::Usage(what) => say(b"", what),
         Failure::File(name, what) => say(name, what),
         Failure::NobodyReads => {}

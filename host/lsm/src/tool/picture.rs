@@ -3,6 +3,8 @@
 use std::ffi::OsStr;
 use std::path::Path;
 
+use lsm::{Description, Rect, Refusal};
+
 use super::arguments::{Arguments, Command};
 use super::ending::{Ending, Stopped, ENDINGS};
 use super::failure::{Failure, ACCEPTED};
@@ -45,13 +47,37 @@ pub fn run(a: &Arguments) -> Result<u8, Failure> {
     let place = PICTURE.output(a)?;
     let ending = Ending::of(place).ok_or_else(|| PICTURE.mistake(unknown(place)))?;
     let scan = Scan::open(&a.files[0])?;
-    let picture = scan.picture(at, rect).map_err(|r| Failure::PictureRefused(at, r))?;
+    let picture = scan.picture(at, rect).map_err(|r| refused(&scan.description, at, rect, r))?;
     if let Some(why) = ending.refuses(picture.shape()) {
         return Err(Failure::file(place, why));
     }
     may_write(Path::new(place), &scan.input)?;
     write(&picture, ending, Path::new(place), &mut Vec::new(), &mut |_| ())?;
     Ok(ACCEPTED)
+}
+
+// A refusal; where more was asked for than there is, with what there is.
+fn refused(d: &Description, at: At, rect: Option<Rect>, r: Refusal) -> Failure {
+    let passes = |start: usize, extent: usize, size: usize| start.checked_add(extent).is_none_or(|end| end > size);
+    match (r, rect) {
+        (Refusal::SceneOutOfRange { .. } | Refusal::OutOfRange { .. }, _) => {
+            let there = format!("counted from 0, the file has scene {}, t {}, c {}, z {}", to(d.scenes), to(d.t), to(d.c), to(d.z));
+            Failure::RequestRefused(at, r, there)
+        }
+        (Refusal::Decode, Some(Rect { x, y, w, h })) if passes(x, w, d.x) || passes(y, h, d.y) => {
+            Failure::RequestRefused(at, r, format!("the rectangle passes the picture, which has {} columns and {} rows", d.x, d.y))
+        }
+        _ => Failure::PictureRefused(at, r),
+    }
+}
+
+// The numbers below a count.
+fn to(count: usize) -> String {
+    match count {
+        0 => "none".to_string(),
+        1 => "0".to_string(),
+        n => format!("0 to {}", n - 1),
+    }
 }
 
 /// Writes a picture to a file that appears whole or not at all.

@@ -126,12 +126,16 @@ fn refusals_of_pictures() {
     let folder = Folder::new("refusals");
     folder.put("m.lsm", &Made { depth: 2, lost: Some(1), ..Made::default() }.bytes());
     let decode = "refused with 2: the bytes can't be the picture that they announce";
-    let cases: [(&[&str], &str); 5] = [
-        (&["--scene", "1"], "scene 1, t 0, c 0, z 0: refused with 5: no scene 1 among 1"),
-        (&["--t", "1"], "scene 0, t 1, c 0, z 0: refused with 6: nothing at scene 0, t 1, c 0, z 0"),
+    let there = "counted from 0, the file has scene 0, t 0, c 0, z 0 to 1";
+    let passed = "the rectangle passes the picture, which has 7 columns and 5 rows";
+    let cases: [(&[&str], &str); 7] = [
+        (&["--scene", "1"], &format!("scene 1, t 0, c 0, z 0: refused with 5: no scene 1 among 1; {there}")),
+        (&["--t", "1"], &format!("scene 0, t 1, c 0, z 0: refused with 6: nothing at scene 0, t 1, c 0, z 0; {there}")),
         (&["--z", "1"], &format!("scene 0, t 0, c 0, z 1: {decode}")),
-        (&["--rect", "0,0,8,1"], &format!("scene 0, t 0, c 0, z 0: {decode}")),
-        (&["--rect", "1,0,18446744073709551615,1"], &format!("scene 0, t 0, c 0, z 0: {decode}")),
+        (&["--z", "1", "--rect", "0,0,7,5"], &format!("scene 0, t 0, c 0, z 1: {decode}")),
+        (&["--rect", "0,0,8,1"], &format!("scene 0, t 0, c 0, z 0: {decode}; {passed}")),
+        (&["--rect", "0,4,1,2"], &format!("scene 0, t 0, c 0, z 0: {decode}; {passed}")),
+        (&["--rect", "1,0,18446744073709551615,1"], &format!("scene 0, t 0, c 0, z 0: {decode}; {passed}")),
     ];
     for (words, what) in cases {
         let words = [&["picture", "m.lsm", "-o", "o.raw"], words].concat();
