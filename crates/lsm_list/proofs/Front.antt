@@ -1,23 +1,16 @@
 -- The weight lies in that what was read decides the printout of the whole input: it is all of it, or more than the longest file that is
 -- listed, and then both are too long. Assumes nothing.
-use Rattle.std.proofs.Common.{◌≡◌, ℕ, ◌+◌, ◌<◌, Bool, true, false, List, [], ◌∷◌, ◌++◌, length, refl, sym, ap, subst, ◌∙◌, arith, length-append, Option, None, Some}
-use Rattle.std.specs.Prelude.{IfSome, cond, leb}
+use Rattle.std.proofs.Common.{◌≡◌, ℕ, ◌+◌, ◌<◌, Bool, true, false, List, ◌++◌, length, refl, sym, ap, subst, ◌∙◌, arith, length-append, Option, None, Some}
+use Rattle.std.specs.Prelude.{IfSome, leb}
 use Rattle.std.specs.Io.KnownBytes.{Consumes, Appends, IsAtEnd}
 use Rattle.std.proofs.KnownBytes.{Consumes-whole}
-use borrow.Author.Tests.{lt-leb, leb-true, leb-false}
-use Rattle.lsm_format.specs.Open.{open_file}
-use Rattle.lsm_format.specs.Printout.{text, lines, most, too_long_line, printout}
-
-abbrev printed : Bool → List ℕ → List ℕ
-printed short f = cond short (text (lines f (open_file f 4096))) (text (too_long_line ∷ []))
-
-too_long : (f : List ℕ) → most < length f → printout f ≡ text (too_long_line ∷ [])
-unfolding printout
-too_long f h = ap (λ (t : Bool). printed t f) (lt-leb (length f) most h)
+use borrow.Author.Tests.{leb-true, leb-false}
+use Rattle.lsm_format.specs.Printout.{most, printout}
+use Rattle.lsm_printout.proofs.Whole.{printout_long}
 
 -- No byte behind so many changes what is printed.
 front_long : (f rest : List ℕ) → most < length f → printout (f ++ rest) ≡ printout f
-front_long f rest h = too_long (f ++ rest) (omega (arith, length-append f rest)) ∙ sym (too_long f h)
+front_long f rest h = printout_long (f ++ rest) (omega (arith, length-append f rest)) ∙ sym (printout_long f h)
 
 -- Reading took `part` off the front of the input, and went on until the input ended or the part was longer than any file that is listed.
 pub of_front : (before after out new : Option (List ℕ)) (part : List ℕ) → Consumes before after part

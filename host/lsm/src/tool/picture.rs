@@ -33,7 +33,8 @@ Writes the samples of one picture to OUT, in the way that OUT's ending asks for.
   .png    grey, of 8 or 16 bits, not compressed: U8 and U16
   .pfm    the grey map of floats, little-endian, lowest row first: F32
 
-OUT appears whole or not at all. Memory is that of the file and at most 20 MiB more, whatever the picture's size.
+OUT appears whole or not at all. Memory is that of the file, a list of its strips, and at most 20 MiB more, whatever the
+picture's size.
 
 status: 0 where the picture is written, 1 where the file or the picture is refused, 2 where the command is wrong or a file can't
 be read or written

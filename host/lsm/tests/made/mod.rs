@@ -7,30 +7,14 @@
 
 use std::io::{self, Write};
 
-#[derive(Debug, Clone, Copy, PartialEq, Eq)]
-pub enum Kind {
-    U8,
-    U16,
-    I16,
-    F32,
-}
+pub use lsm::Kind;
 
-impl Kind {
-    pub fn size(self) -> usize {
-        match self {
-            Kind::U8 => 1,
-            Kind::U16 | Kind::I16 => 2,
-            Kind::F32 => 4,
-        }
-    }
-
-    // SampleFormat: unsigned, signed, float.
-    fn format(self) -> u32 {
-        match self {
-            Kind::U8 | Kind::U16 => 1,
-            Kind::I16 => 2,
-            Kind::F32 => 3,
-        }
+// SampleFormat: unsigned, signed, float.
+fn sample_format(kind: Kind) -> usize {
+    match kind {
+        Kind::U8 | Kind::U16 => 1,
+        Kind::I16 => 2,
+        Kind::F32 => 3,
     }
 }
 
@@ -238,7 +222,7 @@ impl Made {
         entry(278, LONG, 1, self.height.div_ceil(self.strips), 0);
         entry(279, LONG, strips, lengths[0], counts);
         entry(284, SHORT, 1, if self.interleaved { 1 } else { 2 }, 0);
-        entry(339, SHORT, 1, self.kind.format() as usize, 0);
+        entry(339, SHORT, 1, sample_format(self.kind), 0);
         if page == 0 {
             entry(34412, 1, CZ_BLOCK, 0, HEADER);
         }
