@@ -87,8 +87,9 @@ impl Asked<'_> {
             strips,
             into: (rect.x + rect.w) * size - 1,
         };
-        let last = top.seek(rect.y + rect.h - 1, self.d.dims.x * size);
-        if strips_inside(strips, self.len) && last.is_some() {
+        let row = self.d.dims.x * size;
+        // A strip outside the file ends the call before the walk to the last row.
+        if strips_inside(strips, self.len) && top.seek(rect.y + rect.h - 1, row).is_some() {
             Ok(run)
         } else {
             Err(Refusal::Decode)

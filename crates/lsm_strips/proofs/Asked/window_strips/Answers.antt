@@ -12,8 +12,8 @@ use Rattle.lsm_strips.proofs.Asked.window_strips.Goals.{else-strips_inside-via-t
 pub overflow_mul-top : goal.overflow_mul-top
 overflow_mul-top c = part_fits _ _ _ c.requires.whole c.requires.lying _ c.size_bytes-size.ensures
 
-pub overflow_mul-self : goal.overflow_mul-self
-overflow_mul-self c = row_fits _ _ _ c.requires.whole c.requires.lying _ c.size_bytes-size.ensures
+pub overflow_mul-row : goal.overflow_mul-row
+overflow_mul-row c = row_fits _ _ _ c.requires.whole c.requires.lying _ c.size_bytes-size.ensures
 
 pub returns-then-is_some : goal.returns-then-is_some
 returns-then-is_some c =
