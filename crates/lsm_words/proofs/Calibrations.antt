@@ -7,12 +7,12 @@ use mathlib.Core.List.{List, [], ◌∷◌}
 use lib.ListN.{length, get_or}
 use lib.Bits.{bit_and, and_mask}
 use lib.Dec.{T, ltb}
-use lib.Ieee.{Float, binary32, of_bits, is_nan, nan_bits}
+use lib.Ieee.{binary32, of_bits, is_nan, nan_bits}
 use lib.Ieee.Bits.{nan_bits_is, nan_bits_above}
 use borrow.Author.Tests.{lt-ltb, le-ltb}
 use Rattle.lsm_format.specs.Answer.{refused, accepted, bind, decode}
 use Rattle.lsm_format.specs.Calibration.{ZStep, used, absent, placeholder, too_large, Calibration, uncalibrated, sized}
-use Rattle.lsm_words.specs.Calibration.{float_word, step_words, size_words}
+use Rattle.lsm_words.specs.Calibration.{step_words, size_words}
 use Rattle.lsm_words.specs.Calibration.{float_by}
 
 -- ---- floats

@@ -19,15 +19,18 @@ pub const CHANNEL_WORDS: usize = 8;
 
 pub const PICTURE_WORDS: usize = 5;
 
-// A refusal's row, with zeros after it.
-#[tactic(auto, using(crate::proofs::Answered::padded_row))]
+// A refusal's row, with zeros after it. Each word is looked for in the row: a copy of the row's numbers, with zeros behind, would become calls of
+// C's memcpy and memset, which the static library doesn't need otherwise.
+#[tactic(auto, using(crate::proofs::Answered::padded_word, crate::proofs::Answered::padded_all))]
 fn refusal_words<const N: usize>(r: Refusal) -> [usize; N]
     requires { 5 ≤ N }
     ensures { result ≡ padded N (row_of r) }
 {
     let row = r.numbers();
     let mut words = [0; N];
-    words[..row.len()].copy_from_slice(&row);
+    for (i, word) in words.iter_mut().enumerate() {
+        *word = if i < row.len() { row[i] } else { 0 };
+    }
     words
 }
 

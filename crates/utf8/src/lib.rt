@@ -92,6 +92,7 @@ impl<'a> Iterator for Texts<'a> {
 
     ghost remaining = { λ s. at_most (length s.rest.now) };
 
+    #[inline(always)] // so that the count and the writing have a loop of their own each
     #[tactic(auto, using(crate::proofs::Text::lossy_sequence, crate::proofs::Text::lossy_subpart))]
     fn next(&mut self) -> Option<&'a [u8]> {
         let (first, others) = self.rest.split_first()?;
@@ -121,6 +122,17 @@ pub fn lossy_length(s: &[u8]) -> usize
     total
 }
 
+// Copies the text of a piece: so few bytes that a call of C's memcpy would take longer.
+#[tactic(auto, using(lsm_format::proofs::Lists::take_store, lsm_format::proofs::Lists::take_full))]
+fn copy_piece(text: &[u8], out: &mut [u8])
+    requires { length out.old ≡ length text.now }
+    ensures { out.new ≡ text.now }
+{
+    for (i, byte) in out.iter_mut().enumerate() {
+        *byte = text[i];
+    }
+}
+
 // Fills `out` with the text. Each piece is put at its place: of what is left of `out`, split off in a loop, nothing would be known at the end.
 #[tactic(auto, using(crate::proofs::Text::lossy_empty, crate::proofs::Text::joined_length, crate::proofs::Text::write_turn, crate::proofs::Text::write_done))]
 fn write(s: &[u8], out: &mut [u8])
@@ -130,7 +142,7 @@ fn write(s: &[u8], out: &mut [u8])
     let mut n = 0;
     for text in Texts::new(s) {
         let end = n + text.len();
-        out[n..end].copy_from_slice(text);
+        copy_piece(text, &mut out[n..end]);
         n = end;
     }
 }
