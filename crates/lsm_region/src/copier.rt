@@ -127,6 +127,7 @@ fn copy_spaced<const S: usize>(file: &[u8], cur: Cursor, step: usize, n: usize, 
 }
 
 // The same. Samples that stand one after the other are one run of bytes.
+#[inline(always)] // so that the loop over rows has the copy in it
 fn copy_samples<const S: usize>(file: &[u8], cur: Cursor, step: usize, n: usize, out: &mut [u8])
     requires some { (0 < S) × (0 < n) }
     requires apart { S ≤ step }
