@@ -125,6 +125,20 @@ held l k = get_or l k 0
 unfoldable pub picture : (ℕ → ℕ) → ℕ → ℕ → Picture
 picture f width s row column = bytes f ((row * width + column) * s) s
 
+pub picture_length_lem : (f : ℕ → ℕ) (width s row column : ℕ) → length (picture f width s row column) ≡ s
+unfolding picture
+picture_length_lem f width s row column = bytes_length f ((row * width + column) * s) s
+
+-- the rectangle of a picture that is stored row by row: a run of bytes for each row
+pub window_rows : (f : ℕ → ℕ) (width s : ℕ) (r : Rect)
+    → window (picture f width s) r ≡ span r.y r.h (λ i. bytes f (i * (width * s) + r.x * s) (r.w * s))
+unfolding window picture
+window_rows f width s r =
+    span_cong r.y r.h (λ i. span r.x r.w (λ c. bytes f ((i * width + c) * s) s)) (λ i. bytes f (i * (width * s) + r.x * s) (r.w * s))
+    (λ i l u.
+    let q : (i * width + r.x) * s ≡ i * (width * s) + r.x * s = rw (add-mul, mul_assoc) in
+    tile f (i * width) r.x r.w s ∙ ap (λ (k : ℕ). bytes f k (r.w * s)) q)
+
 -- every sample of the rectangle has s bytes
 abbrev pub Even : Picture → ℕ → Rect → Type 0
 Even p s r = (i j : ℕ) → r.y ≤ i → i < r.y + r.h → r.x ≤ j → j < r.x + r.w → length (p i j) ≡ s

@@ -33,14 +33,16 @@ use Rattle.lsm_reader.proofs.Going.{laid_more, Going}
 
 -- ---- visits
 
--- a directory that is visited has its ends
-visited_ends : (o : Order) (f : List ℕ) (place visited : ℕ) (x : ℕ × ℕ) → visit_ends o f place visited ≡ accepted x → ends o f place ≡ accepted x
+-- a directory is visited only below the limit, and has its ends
+pub visited_ends : (o : Order) (f : List ℕ) (place visited : ℕ) (x : ℕ × ℕ) → visit_ends o f place visited ≡ accepted x →
+    (visited < 1000000) × (ends o f place ≡ accepted x)
 unfolding visit_ends bind
-visited_ends o f place visited x e = by (ltb visited 1000000) e
+visited_ends o f place visited x e = by (ltb visited 1000000) refl e
   where
-    by : (b : Bool) → bind (need parse b) (λ _. ends o f place) ≡ accepted x → ends o f place ≡ accepted x
-    by true q = q
-    by false q = absurd (not_both parse x q)
+    by : (b : Bool) → ltb visited 1000000 ≡ b → bind (need parse b) (λ _. ends o f place) ≡ accepted x →
+        (visited < 1000000) × (ends o f place ≡ accepted x)
+    by true l q = (ltb-true _ _ l, q)
+    by false l q = absurd (not_both parse x q)
 
 -- ---- a turn of the chain
 
@@ -113,7 +115,7 @@ module _ (o : Order) (f lent : List ℕ) (place mark : ℕ) (w : Walk) (used : �
     comes =
         rw (← first_is)
         (again_turn o f (option_map (directory_of o f) w.first) mark place next (directory_of o f d) z
-        (λ k u q. chain_turn o f place u z k n next (visited_ends o f place w.visited (n, next) (sym e)) (directory_of o f d) read q) (sym a) g.again)
+        (λ k u q. chain_turn o f place u z k n next (visited_ends o f place w.visited (n, next) (sym e)).1 (directory_of o f d) read q) (sym a) g.again)
 
     -- the chain is back at its mark
     pub circled : (after : List ℕ) → next ≡ mark → WalkedAs o f lent after (Err Parse)

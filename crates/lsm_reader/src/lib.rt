@@ -2,5 +2,5 @@
 #![tactic(auto)]
 
 mod chain;
-mod header;
+pub mod header;
 pub mod open;

@@ -4,15 +4,27 @@ use native.Mathlib.Nat.{suc-mul, mul-le-mul_right, add-sub_cancel_left, zero-add
 use native.Mathlib.Numerals.{add-one}
 use native.Mathlib.Omega.{arith}
 use mathlib.Core.Path.{◌≡◌, refl, sym, ap, ◌∙◌}
+use mathlib.Core.Logic.{◌⊎◌, inl, inr}
 use mathlib.Core.List.{List, [], ◌∷◌, reverse}
 use borrow.Rule.Slice.PartMut.{put_mid, drop_put}
 use Rattle.std.proofs.lemmas.Slice.{take-put_mid}
-use lib.ListN.{length, take, drop, length-reverse}
-use lib.Seq.{drop-drop}
+use lib.ListN.{length, take, drop, length-drop, length-reverse}
+use lib.Seq.{take_all, length-take-le, drop-drop}
+use Rattle.lsm_format.specs.Sizes.{Kind, u8, u16, i16, f32, sample_size}
 use Rattle.lsm_format.specs.Picture.{span, bytes}
 use Rattle.lsm_format.proofs.Picture.{held, span_snoc, bytes_length, bytes_run}
 
+-- a sample has one, two or four bytes
+pub sample_size_lem : (k : Kind) → (sample_size k ≡ 1) ⊎ ((sample_size k ≡ 2) ⊎ (sample_size k ≡ 4))
+sample_size_lem u8 = inl refl
+sample_size_lem u16 = inr (inl refl)
+sample_size_lem i16 = inr (inl refl)
+sample_size_lem f32 = inr (inr refl)
+
 -- ---- a part of a list that is filled from the front
+
+pub part_length : (a m : ℕ) (out : List ℕ) → a + m ≤ length out → length (take (a + m - a) (drop a out)) ≡ m
+part_length a m out h = rw add-sub_cancel_left (length-take-le m (drop a out) (rw length-drop (omega arith)))
 
 pub part_in : (h part i : ℕ) → i < h → i * part + part ≤ h * part
 part_in h part i l = omega (arith, suc-mul i part, mul-le-mul_right part l)
@@ -24,6 +36,13 @@ pub part_step : (g : ℕ → List ℕ) (y i part : ℕ) (out ys : List ℕ) → 
 part_step g y i part out ys fits l e so_far =
     let q : (i + 1) * part ≡ i * part + part = rw (add-one, suc-mul) in
     rw (q, take-put_mid (i * part) (i * part + part - i * part) out ys (i * part + part) (omega arith) (omega arith), so_far, e) (sym (span_snoc y i g))
+
+pub parts_done : (g : ℕ → List ℕ) (y i h part : ℕ) (out : List ℕ) → i ≤ h → h ≤ i → length out ≡ h * part → take (i * part) out ≡ span y i g
+    → out ≡ span y h g
+parts_done g y i h part out l u e so_far =
+    let q : i ≡ h = omega arith in
+    let so-far' : take (h * part) out ≡ span y h g = rw q at so_far in
+    sym (take_all (h * part) out (omega arith)) ∙ so-far'
 
 -- ---- one sample turned around
 

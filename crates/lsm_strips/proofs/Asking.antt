@@ -11,6 +11,14 @@ use Rattle.lsm_format.proofs.Picture.{bind_then, coordinate_channel, rectangle_w
 use Rattle.lsm_format.proofs.Region.{not_empty}
 use Rattle.lsm_strips.specs.Parts.{Lying}
 
+-- a rectangle in the picture that isn't empty
+pub lying : (d : Description) (r : Rect) (v : Unit {0}) → rectangle d.dims r ≡ accepted v → is_empty r ≡ false → Lying d r
+lying d r v h e =
+    let w = rectangle_within d.dims r v h in
+    let n = rectangle_ends d.dims r v h in
+    let p = not_empty r e in
+    record { right = n.0; across = w.0; bottom = n.1; down = w.1; columns = p.0; rows = p.1 }
+
 module _ (d : Description) (co : Coordinate) (r : Rect) (there : scene_there d co.scene ≡ accepted tt) where
   place_there : coordinate_there d co ≡ coordinates d.dims co
   unfolding coordinate_there bind
@@ -24,12 +32,8 @@ module _ (d : Description) (co : Coordinate) (r : Rect) (there : scene_there d c
   pub channel_there : in_picture d.dims co r ≡ accepted tt → co.c < d.dims.c
   channel_there h = (asked_there h).0
 
-  pub lying : in_picture d.dims co r ≡ accepted tt → is_empty r ≡ false → Lying d r
-  lying h e =
-      let w = rectangle_within d.dims r tt (asked_there h).1 in
-      let n = rectangle_ends d.dims r tt (asked_there h).1 in
-      let p = not_empty r e in
-      record { right = n.0; across = w.0; bottom = n.1; down = w.1; columns = p.0; rows = p.1 }
+  pub rectangle_there : in_picture d.dims co r ≡ accepted tt → rectangle d.dims r ≡ accepted tt
+  rectangle_there h = (asked_there h).1
 
 module _ (d : Description) (t : List ℕ) (len : ℕ) (co : Coordinate) (r : Rect) where
   module _ (there : scene_there d co.scene ≡ accepted tt) where

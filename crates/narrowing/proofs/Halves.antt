@@ -1,15 +1,16 @@
 -- A fraction to the nearest whole number, by the three ways that twice the remainder can compare with the divisor, and these
 -- numbers as shifts and masks give them. Assumes nothing.
 use mathlib.Core.Path.{◌≡◌, refl, sym, ap, ◌∙◌, subst}
-use Prim.Native.Nat.{ℕ, suc, ◌+◌, ◌-◌, ◌*◌, ◌/◌, ◌%◌, ◌^◌, ◌≤◌, ◌<◌}
+use Prim.Native.Nat.{ℕ, suc, ◌+◌, ◌-◌, ◌*◌, ◌/◌, ◌%◌, ◌^◌, ◌≤◌, ◌<◌, suc-le-suc}
 use Prim.Native.Nat.{compare, Ordering}
-use native.Mathlib.Nat.{div-eq_of_lt, mod-eq_of_lt, mod-lt, one-mul, lt_of_lt_of_le}
+use native.Mathlib.Nat.{div-eq_of_lt, mod-eq_of_lt, mod-lt, one-mul, le_trans, lt_of_lt_of_le, div-le_self}
 use native.Mathlib.Omega.{arith}
 use mathlib.Core.Bool.{not}
 use lib.Dec.{T, is_le, compare_is_eq, eqb, leb→le, nleb→lt, eqb→eq, eqb_refl, lit<, lit≤}
 use lib.Pow.{pow_pos, pow_mono, shl_exact}
 use lib.Bits.{bit_and, and_mask}
 use lib.Ieee.{nearest}
+use lib.Ieee.Fits.{nearest-le}
 use lib.Ieee.Nearest.{closest}
 
 -- ---- `nearest` by the order of a and b
@@ -52,6 +53,10 @@ closest_up m u h = nearest_gt (m % u * 2) u (m / u) h
 
 pub closest_tie : (m u : ℕ) → m % u * 2 ≡ u → closest m u ≡ m / u + bit_and (m / u) 1
 closest_tie m u h = nearest_eq (m % u * 2) u (m / u) h ∙ ap (λ (y : ℕ). m / u + y) (sym (and_mask (m / u) 1))
+
+-- rounding adds one at most
+pub closest_le : (m u : ℕ) → closest m u ≤ suc m
+closest_le m u = le_trans (nearest-le (m / u) (compare (m % u * 2) u)) (suc-le-suc (div-le_self m u))
 
 -- all 53 digits of a double are less than a half where more than 53 go
 pub closest_far : (m d : ℕ) → m < 2 ^ 53 → 54 ≤ d → closest m (2 ^ d) ≡ 0

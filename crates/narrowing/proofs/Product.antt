@@ -1,13 +1,15 @@
 -- The product by a million and its narrowing: where they are no NaN, and that the pattern written is read as the micrometres.
 -- Assumes nothing.
-use mathlib.Core.Path.{◌≡◌, refl, sym, ap, ◌∙◌}
-use Prim.Native.Nat.{ℕ, zero, suc, ◌+◌, ◌*◌, ◌^◌}
+use mathlib.Core.Path.{◌≡◌, refl, sym, ap, ◌∙◌, subst}
+use Prim.Native.Nat.{ℕ, zero, suc, ◌+◌, ◌*◌, ◌^◌, ◌≤◌, ◌<◌}
 use mathlib.Core.Bool.{Bool, true, false, not, cond, false≢true}
 use lib.Dec.{T, ltb}
+use lib.Bits.{bit_and, and_mask}
 use lib.Ieee.{Float, nan, inf, fin, Format, binary32, binary64, prec, emax, low, unlike, up, down}
 use lib.Ieee.{odd, units, round, mul, fits, is_nan, nan_bits, of_bits, to_bits}
-use lib.Ieee.Bits.{of_bits-to_bits, nan_bits_is}
+use lib.Ieee.Bits.{of_bits-to_bits, nan_bits_is, nan_bits_above}
 use lib.Ieee.Fits.{round-fits, mul-fits, nan-fits, inf-fits}
+use borrow.Author.Tests.{lt-ltb, le-ltb}
 use Rattle.lsm_format.specs.Calibration.{million, narrow, micrometres}
 
 -- ---- no NaN
@@ -58,6 +60,22 @@ narrow_fits nan = nan-fits binary32
 narrow_fits (inf s) = inf-fits binary32 s
 narrow_fits (fin s m e) = round-fits binary32 s (m * up e) (down e)
 
+-- ---- NaNs among the patterns
+
+-- without its sign's bit a NaN's pattern is above the infinity's
+tested : (b : ℕ) → nan_bits binary64 b ≡ ltb 0x7ff0_0000_0000_0000 (bit_and b 0x7fff_ffff_ffff_ffff)
+tested b = nan_bits_above binary64 b ∙ ap (ltb 0x7ff0_0000_0000_0000) (sym (and_mask b 63))
+
+pub pattern_nan : (b : ℕ) → 0x7ff0_0000_0000_0000 < bit_and b 0x7fff_ffff_ffff_ffff → of_bits binary64 b ≡ nan
+pattern_nan b h = is_nan_lem (of_bits binary64 b) (sym (nan_bits_is binary64 b) ∙ tested b ∙ lt-ltb _ _ h)
+
+pub refused : (b : ℕ) → 0x7ff0_0000_0000_0000 < bit_and b 0x7fff_ffff_ffff_ffff → micrometres b ≡ nan
+unfolding micrometres narrow mul
+refused b h = ap (λ (v : Float). narrow (mul binary64 v million)) (pattern_nan b h)
+
+pub taken : (b : ℕ) → bit_and b 0x7fff_ffff_ffff_ffff ≤ 0x7ff0_0000_0000_0000 → T (not (nan_bits binary64 b))
+taken b h = subst (λ (t : Bool). T (not t)) (sym (tested b ∙ le-ltb _ _ h)) tt
+
 -- ---- the product, and what it is narrowed to
 
 -- a million, by its pattern as the code's constant has it
@@ -71,6 +89,9 @@ product b = mul binary64 (of_bits binary64 b) (of_bits binary64 0x412e_8480_0000
 -- the pattern that is written for the product narrowed
 abbrev pub pattern : ℕ → ℕ
 pattern b = to_bits binary32 (narrow (of_bits binary64 (to_bits binary64 (product b))))
+
+pub product_number : (b : ℕ) → T (not (nan_bits binary64 b)) → Number (product b)
+product_number b h = rw factor (mul_number (of_bits binary64 b) (rw (nan_bits_is binary64 b) at h))
 
 by_product : (b : ℕ) → micrometres b ≡ narrow (product b)
 unfolding micrometres
@@ -92,6 +113,14 @@ narrowed b r e =
 -- and one that is none
 pub narrowed_number : (b : ℕ) → is_nan (product b) ≡ false → T (not (nan_bits binary32 (pattern b)))
 narrowed_number b h = rw (nan_bits_is binary32 (pattern b), narrowed b (pattern b) refl, by_product b) (narrow_number (product b) (rw h tt))
+
+-- what is no NaN has no NaN's pattern written
+pub written_number : (b r : ℕ) → T (not (nan_bits binary64 b)) → r ≡ pattern b → T (not (nan_bits binary32 r))
+unfolding micrometres
+written_number b r h e =
+    let v = of_bits binary64 b in
+    rw (nan_bits_is binary32 r, narrowed b r e)
+    (narrow_number (mul binary64 v million) (mul_number v (rw (nan_bits_is binary64 b) at h)))
 
 -- what is no NaN has no NaN's micrometres
 pub micrometres_number : (b : ℕ) → Number (of_bits binary64 b) → Number (micrometres b)

@@ -3,7 +3,7 @@
 use mathlib.Core.Path.{sym}
 use Rattle.lsm_format.specs.Code.{rect_of, coordinate_of}
 use Rattle.lsm_description.specs.Code.{description_of}
-use Rattle.lsm_strips.proofs.Asking.{channel_there, lying}
+use Rattle.lsm_strips.proofs.Asking.{lying, channel_there, rectangle_there}
 use Rattle.lsm_strips.proofs.region_from.Goals as goal
 
 pub invariant_of-asked : goal.invariant_of-asked
@@ -12,4 +12,5 @@ invariant_of-asked c =
 
 pub region_strips-requires : goal.region_strips-requires
 region_strips-requires c =
-    lying (description_of c.args.d) (coordinate_of c.args.co) (rect_of c.args.rect) (sym c.in_ok-checked_scene.ensures) (sym c.in_ok-checked_region.ensures) (sym c.if-is_empty.ensures)
+    let there = rectangle_there (description_of c.args.d) (coordinate_of c.args.co) (rect_of c.args.rect) (sym c.in_ok-checked_scene.ensures) (sym c.in_ok-checked_region.ensures) in
+    lying (description_of c.args.d) (rect_of c.args.rect) tt there (sym c.if-is_empty.ensures)
