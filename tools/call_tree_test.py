@@ -18,6 +18,9 @@ SAME, REPORT, IN_C, UTF8 = 'vectors/src/same.rt', 'vectors/src/report.rt', 'lsm_
 REFUSED = 'not read'
 # A type of a crate above `vectors`, with an impl for which that calls a method.
 MINE = 'use vectors::asked::{coordinate, rectangle};\nuse vectors::same::{Lent, kept};\n\npub struct Mine;\n\nimpl '
+# A method of `vectors` that is handed a closure, and the line of a program above that is to call it.
+AGREES = (REPORT, 'impl Tally {', 'impl Tally {\n    pub fn agrees<F: Fn(usize) -> bool>(&self, test: F) -> bool {\n        test(self.cases)\n    }\n')
+SIZE = "b's' => plain.count(parts.is_some_and(|(said, _)| ground::size(said))),"
 
 # What a case shows; in which files what is put for what; the cycle.
 CASES = [
@@ -45,14 +48,13 @@ CASES = [
     ('a function that is handed to the library', [(VALUES, '_ => 0,', '_ => [ty].map(tiff_type_size)[0],')], 'lsm_values::tiff_type_size'),
     ('a function that is handed to another', [(IN_C, 'answered(said, out, |out', 'of_handed(said, file, region_agrees) && answered(said, out, |out')],
      'lsm_replay_pictures::in_c::plane_agrees lsm_replay_pictures::in_c::of_handed'),
-    ('a closure that is handed to another crate', [(REPLAY, '|said, _| ground::size(said)', '|said, _| line.agrees(ground::read)')],
-     'vectors::text::Line::agrees'),
-    ('a closure with a name', [(REPLAY, "b's' => plain.count(line.agrees(|said, _| ground::size(said))),",
-                                "b's' => {\n let f = |said, _| line.agrees(ground::read);\n plain.count(line.agrees(f))\n}")],
-     'vectors::text::Line::agrees'),
-    ('a closure in a value with a name', [(REPLAY, "b's' => plain.count(line.agrees(|said, _| ground::size(said))),",
-                                           "b's' => {\n let f = Some(|said, _| line.agrees(ground::read));\n let (g, _) = (f, 0);\n plain.count(line.agrees(g.unwrap()))\n}")],
-     'vectors::text::Line::agrees'),
+    ('a closure that is handed to another crate', [AGREES, (REPLAY, '|(said, _)| ground::size(said)', '|_| plain.agrees(|_| plain.agrees(|n| n == 0))')],
+     'vectors::report::Tally::agrees'),
+    ('a closure with a name', [AGREES, (REPLAY, SIZE, "b's' => {\n let f = |_| plain.agrees(|n| n == 0);\n plain.count(plain.agrees(f))\n}")],
+     'vectors::report::Tally::agrees'),
+    ('a closure in a value with a name', [AGREES, (REPLAY, SIZE, "b's' => {\n let f = Some(|_| plain.agrees(|n| n == 0));\n let (g, _) = (f, 0);\n"
+                                                                 " plain.count(plain.agrees(g.unwrap()))\n}")],
+     'vectors::report::Tally::agrees'),
     ('an iterator', [(UTF8, 'let n = matching(ranges, others);', 'let n = lossy_length(others);')],
      'utf8::Texts::next utf8::piece_at utf8::lossy_length'),
     ('a conversion', [(DIRECTORY, '_ => Tag::Other,', '_ => 254.into(),')], 'lsm_directory::Tag::from'),

@@ -1,5 +1,6 @@
 // The CZ-LSM-Info block.
 ghost use Rattle.std.specs.Prelude.{◌≡◌, true, ◌≤◌, length};
+ghost use Rattle.lsm_replay.specs.Told.{info_told};
 
 use crate::answer::refused;
 use crate::ground::{bits_of, order};
@@ -12,7 +13,7 @@ const NO_PLACE: usize = 0x1_0000_0000;
 
 // Whether the block's contents are what is said: 0, the dimensions, positions and tiles, the channel block's place, and the calibration.
 fn info(said: &[usize], i: CzInfo) -> bool
-    ensures { result ≡ true → 10 ≤ length said.now }
+    ensures { result ≡ true → said.now ≡ info_told i }
 {
     let numbers = [
         0,

@@ -1,5 +1,6 @@
 // The byte readers, sizes, rectangles and scenes. A line has the numbers that say what is asked, and then the answer.
 ghost use Rattle.std.specs.Prelude.{◌≡◌, true, ◌+◌, ◌-◌, ◌≤◌, ◌<◌, length, pos, negsuc, IfSome};
+ghost use Rattle.lsm_replay.specs.Told.{signed_told};
 
 use crate::answer::{refused, told};
 use lsm_bytes::{read_f64_bits, read_i32, read_u8, read_u16, read_u32};
@@ -31,7 +32,8 @@ fn kind(n: usize) -> DType
 
 // An i32 as the lists have it: the u32 of the same bits.
 pub fn bits_of(n: i32) -> usize
-    ensures { result < 4294967296 }
+    ensures value { result ≡ signed_told n }
+    ensures small { result < 4294967296 }
 {
     n.cast_unsigned() as usize
 }
@@ -45,7 +47,7 @@ fn signed(n: usize) -> i32
 
 // What stands at a place of a buffer: the type, the order and the place.
 pub fn read(numbers: &[usize], bytes: &[u8]) -> bool
-    ensures { result ≡ true → 3 ≤ length numbers.now }
+    ensures { result ≡ true → 4 ≤ length numbers.now }
 {
     let [what, e, off, said @ ..] = numbers else {
         return false;

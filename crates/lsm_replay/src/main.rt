@@ -31,17 +31,19 @@ fn compare(text: &[u8]) -> Tallies
     let mut plain = Tally::default();
     let mut voxels = Tally::default();
     let mut blocks = Tally::default();
-    for line in Lines::<20, 320>::new(text) {
+    let mut lines = Lines::<20, 320>::new(text);
+    while let Some(line) = lines.read() {
+        let parts = line.said;
         match line.letter {
-            b'b' => plain.count(line.agrees(ground::read)),
-            b's' => plain.count(line.agrees(|said, _| ground::size(said))),
-            b'r' => plain.count(line.agrees(|said, _| ground::region(said))),
-            b'm' => plain.count(line.agrees(|said, _| ground::empty(said))),
-            b'l' => plain.count(line.agrees(|said, _| ground::scenes(said))),
-            b'e' => plain.count(line.agrees(|said, _| ground::pages(said))),
-            b'p' => plain.count(line.agrees(|said, _| ground::page(said))),
-            b'c' => voxels.count(line.agrees(|said, _| voxels::voxels(said))),
-            b'z' => blocks.count(line.agrees(cz::block)),
+            b'b' => plain.count(parts.is_some_and(|(said, bytes)| ground::read(said, bytes))),
+            b's' => plain.count(parts.is_some_and(|(said, _)| ground::size(said))),
+            b'r' => plain.count(parts.is_some_and(|(said, _)| ground::region(said))),
+            b'm' => plain.count(parts.is_some_and(|(said, _)| ground::empty(said))),
+            b'l' => plain.count(parts.is_some_and(|(said, _)| ground::scenes(said))),
+            b'e' => plain.count(parts.is_some_and(|(said, _)| ground::pages(said))),
+            b'p' => plain.count(parts.is_some_and(|(said, _)| ground::page(said))),
+            b'c' => voxels.count(parts.is_some_and(|(said, _)| voxels::voxels(said))),
+            b'z' => blocks.count(parts.is_some_and(|(said, file)| cz::block(said, file))),
             _ => plain.count(false),
         }
     }

@@ -1,12 +1,15 @@
 // Voxel sizes: the pixel size, the Z step and its note.
 ghost use Rattle.std.specs.Prelude.{◌≡◌, true, false, ◌≤◌, length};
+ghost use Rattle.lsm_replay.specs.Told.{letters_told, step_told, calibration_told};
 
 use arrayvec::ArrayVec;
 use calibration::{Calibration, ZStep, calibrate, note_figure};
 use std::num::f32_to_bits_with_nan;
 
 // A figure's letters as the bytes of one number.
-fn letters(figure: ArrayVec<u8, 8>) -> usize {
+fn letters(figure: ArrayVec<u8, 8>) -> usize
+    ensures { result ≡ letters_told figure.items }
+{
     let mut bytes = [0; 8];
     bytes[8 - figure.len()..].copy_from_slice(figure.as_slice());
     usize::from_be_bytes(bytes)
@@ -14,7 +17,7 @@ fn letters(figure: ArrayVec<u8, 8>) -> usize {
 
 // Whether the Z step is what is said.
 fn step(said: &[usize], z: ZStep) -> bool
-    ensures { result ≡ true → 1 ≤ length said.now }
+    ensures { result ≡ true → said.now ≡ step_told z }
 {
     match z {
         ZStep::Used(um) => said == [0, f32_to_bits_with_nan(um) as usize].as_slice(),
@@ -26,7 +29,7 @@ fn step(said: &[usize], z: ZStep) -> bool
 
 // Whether the calibration is what is said.
 pub fn calibrated(said: &[usize], calibration: Option<Calibration>) -> bool
-    ensures { result ≡ true → 1 ≤ length said.now }
+    ensures { result ≡ true → said.now ≡ calibration_told calibration }
 {
     match (calibration, said) {
         (None, [0]) => true,

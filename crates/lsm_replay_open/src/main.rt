@@ -51,16 +51,18 @@ fn compare(text: &[u8]) -> Tallies
     let mut opened = Tally::default();
     let mut found = Tally::default();
     let mut described = Tally::default();
-    for line in Lines::<4096, 4096>::new(text) {
+    let mut lines = Lines::<4096, 4096>::new(text);
+    while let Some(line) = lines.read() {
+        let parts = line.said;
         match line.letter {
             b'n' => {
-                lookups.count(line.agrees(lookup::lookup));
-                found.count(line.agrees(in_c::lookup));
+                lookups.count(parts.is_some_and(|(said, file)| lookup::lookup(said, file)));
+                found.count(parts.is_some_and(|(said, file)| in_c::lookup(said, file)));
             }
-            b'w' => described.count(line.agrees(in_c::described)),
+            b'w' => described.count(parts.is_some_and(|(said, file)| in_c::described(said, file))),
             b'o' => {
-                openings.count(line.agrees(opening::opening));
-                opened.count(line.agrees(in_c::opening));
+                openings.count(parts.is_some_and(|(said, file)| opening::opening(said, file)));
+                opened.count(parts.is_some_and(|(said, file)| in_c::opening(said, file)));
             }
             _ => {
                 openings.count(false);

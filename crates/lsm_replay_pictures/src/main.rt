@@ -37,18 +37,20 @@ fn compare(text: &[u8]) -> Tallies
     let mut pictured = Tally::default();
     let mut windowed = Tally::default();
     let mut handed = Tally::default();
-    for line in Lines::<1024, 4096>::new(text) {
+    let mut lines = Lines::<1024, 4096>::new(text);
+    while let Some(line) = lines.read() {
+        let parts = line.said;
         match line.letter {
             b'p' => {
-                planes.count(line.agrees(picture::plane_of));
-                pictured.count(line.agrees(in_c::plane_of));
+                planes.count(parts.is_some_and(|(said, file)| picture::plane_of(said, file)));
+                pictured.count(parts.is_some_and(|(said, file)| in_c::plane_of(said, file)));
             }
             b'r' => {
-                rectangles.count(line.agrees(picture::region_of));
-                windowed.count(line.agrees(in_c::region_of));
+                rectangles.count(parts.is_some_and(|(said, file)| picture::region_of(said, file)));
+                windowed.count(parts.is_some_and(|(said, file)| in_c::region_of(said, file)));
             }
-            b'q' => handed.count(line.agrees(in_c::plane_handed)),
-            b'h' => handed.count(line.agrees(in_c::region_handed)),
+            b'q' => handed.count(parts.is_some_and(|(said, file)| in_c::plane_handed(said, file))),
+            b'h' => handed.count(parts.is_some_and(|(said, file)| in_c::region_handed(said, file))),
             _ => handed.count(false),
         }
     }

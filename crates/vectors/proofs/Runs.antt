@@ -1,9 +1,14 @@
 -- Laws of the bytes of a list, read run by run. Assumes nothing.
-use Rattle.std.proofs.Common.{◌≡◌, ℕ, zero, suc, ◌+◌, ◌-◌, ◌<◌, ◌≤◌, List, [], ◌++◌, Some, None, length, arith, refl, sym, ap, ◌∙◌, append_assoc, append-nil, length-append}
+use Rattle.std.proofs.Common.{◌≡◌, ℕ, zero, suc, ◌+◌, ◌-◌, ◌<◌, ◌≤◌, List, [], ◌++◌, Some, None, length, arith, refl, sym, ap, ◌∙◌, take, replicate, append_assoc, append-nil, length-append}
 use Rattle.std.proofs.lemmas.Grind.{common_steps}
+use Rattle.std.proofs.lemmas.List.{take-replicate, length-replicate}
 use Rattle.std.specs.Prelude.{Option}
 use Rattle.vectors.specs.Numbers.{then}
 use Rattle.vectors.specs.Lines.{run, fitting, runs, bytes}
+
+-- The first bytes of the longest run are a run.
+pub run_front : (n byte : ℕ) → n ≤ 255 → (length (take n (replicate 255 byte)) ≡ n) × (take n (replicate 255 byte) ≡ replicate n byte)
+run_front n byte h = let e = take-replicate n 255 byte h in (ap length e ∙ length-replicate n byte, e)
 
 -- what fits is something and has room
 fits : (room : ℕ) (o : Option (List ℕ × List ℕ)) (r : List ℕ × List ℕ) → fitting room o ≡ Some r → (0 < length r.0) × (length r.0 ≤ room)

@@ -51,19 +51,20 @@ fn spaced(text: &[u8]) -> Option<(usize, &[u8])>
     number(text.strip_prefix(b" ")?)
 }
 
-// The numbers that a text begins with, a space before each, as many as there is room for, and the text behind them.
+// The numbers that a text begins with, a space before each, as many as there is room for, in lent memory, and the text behind them. What
+// was in it before is gone.
 #[tactic(auto, using(crate::proofs::Digits::numbers_more), unfolding(crate::specs::Numbers::numbers))]
-pub(crate) fn numbers<const N: usize>(text: &[u8]) -> (ArrayVec<usize, N>, &[u8])
-    ensures { (result.0.items, result.1.now) ≡ numbers N text.now }
+pub(crate) fn numbers<'a, const N: usize>(text: &'a [u8], lent: &mut ArrayVec<usize, N>) -> &'a [u8]
+    ensures { (lent.new.items, result.now) ≡ numbers N text.now }
 {
-    let mut numbers = ArrayVec::new();
+    lent.clear();
     let mut rest = text;
-    while !numbers.is_full() {
+    while !lent.is_full() {
         let Some((value, after)) = spaced(rest) else {
             break;
         };
-        numbers.push(value);
+        lent.push(value);
         rest = after;
     }
-    (numbers, rest)
+    rest
 }

@@ -1,7 +1,8 @@
 // The lines of a list of recorded answers. A line is a letter, then hexadecimal numbers with a space before each, then a colon and
 // bytes where the case has any. Two digits are a byte, and `*NNBB` is NN bytes BB.
-ghost use Rattle.std.specs.Prelude.{◌≡◌, false, ◌++◌, ◌+◌, ◌^◌, ◌<◌, ◌≤◌, length, replicate, option_map, IfSome};
-ghost use Rattle.std.specs.Iterator.{at_most};
+ghost use Rattle.std.specs.Prelude.{◌≡◌, ◌++◌, ◌+◌, ◌<◌, ◌≤◌, length, replicate, option_map, OnSome};
+ghost use Rattle.std.specs.Borrow.{sem};
+ghost use Rattle.std.specs.Io.BufRead.{Rests};
 ghost use Rattle.arrayvec.specs.ArrayVec.{array_vec_len};
 ghost use Rattle.vectors.specs.Code.{says_of, line_of};
 ghost use Rattle.vectors.specs.Lines.{pair, run, fitting, bytes, tail, said, line};
@@ -54,117 +55,134 @@ fn fitting(text: &[u8], room: usize) -> Option<(Repeated, &[u8])>
     Some((run, rest))
 }
 
-// Puts a run behind bytes that have room for it.
+// Puts a run behind bytes that have room for it, a longer one at a stroke.
+#[tactic(auto, using(crate::proofs::Runs::run_front))]
 fn push_run<const N: usize>(bytes: &mut ArrayVec<u8, N>, run: Repeated)
     requires { array_vec_len bytes.old + run.times ≤ N }
     ensures { bytes.new.items ≡ bytes.old.items ++ replicate run.times run.byte }
 {
-    for _ in 0..run.times {
+    if run.times == 1 {
         bytes.push(run.byte);
+    } else {
+        let longest = [run.byte; 255];
+        let _ = bytes.try_extend_from_slice(&longest[..usize::from(run.times)]);
     }
 }
 
-// The bytes that a text begins with, run behind run as long as there is room, and the text behind them.
+// The bytes that a text begins with, run behind run as long as there is room, in lent memory, and the text behind them. What was in it
+// before is gone.
 #[tactic(auto, using(crate::proofs::Runs::bytes_all, crate::proofs::Runs::bytes_more, crate::proofs::Left::all_left))]
+fn bytes_into<'a, const N: usize>(text: &'a [u8], lent: &mut ArrayVec<u8, N>) -> &'a [u8]
+    ensures value { (lent.new.items, result.now) ≡ bytes N text.now }
+    ensures behind { length result.now ≤ length text.now }
+{
+    lent.clear();
+    let mut rest = text;
+    while let Some((run, after)) = fitting(rest, lent.remaining_capacity()) {
+        push_run(lent, run);
+        rest = after;
+    }
+    rest
+}
+
+// The same, in memory of its own.
 pub fn bytes<const N: usize>(text: &[u8]) -> (ArrayVec<u8, N>, &[u8])
     ensures value { (result.0.items, result.1.now) ≡ bytes N text.now }
     ensures behind { length result.1.now ≤ length text.now }
 {
     let mut bytes = ArrayVec::new();
-    let mut rest = text;
-    while let Some((run, after)) = fitting(rest, bytes.remaining_capacity()) {
-        push_run(&mut bytes, run);
-        rest = after;
-    }
+    let rest = bytes_into(text, &mut bytes);
     (bytes, rest)
 }
 
-// The bytes behind a colon; none where there is no colon.
+// The bytes behind a colon, in lent memory; none where there is no colon.
 #[tactic(auto, using(crate::proofs::Digits::behind_is, crate::proofs::Digits::behind_not), unfolding(crate::specs::Lines::tail))]
-fn tail<const N: usize>(text: &[u8]) -> (ArrayVec<u8, N>, &[u8])
-    ensures { (result.0.items, result.1.now) ≡ tail N text.now }
+fn tail<'a, const N: usize>(text: &'a [u8], lent: &mut ArrayVec<u8, N>) -> &'a [u8]
+    ensures { (lent.new.items, result.now) ≡ tail N text.now }
 {
     match text.strip_prefix(b":") {
-        Some(rest) => bytes(rest),
-        None => (ArrayVec::new(), text),
+        Some(rest) => bytes_into(rest, lent),
+        None => {
+            lent.clear();
+            text
+        }
     }
 }
 
-// What a line says: its numbers and its bytes.
+// Memory for what a line says: its numbers and its bytes.
 #[derive(Drop)]
-pub struct Said<const N: usize, const M: usize> {
-    pub numbers: ArrayVec<usize, N>,
-    pub bytes: ArrayVec<u8, M>,
+struct Said<const N: usize, const M: usize> {
+    numbers: ArrayVec<usize, N>,
+    bytes: ArrayVec<u8, M>,
 }
 
-// What the line says whose letter stands before a text, and the text behind the line. None where it hasn't the form, or has no room.
-#[tactic(auto, using(crate::proofs::Digits::behind_is, crate::proofs::Digits::behind_not), unfolding(crate::specs::Lines::said))]
-fn says<const N: usize, const M: usize>(text: &[u8]) -> Option<(Said<N, M>, &[u8])>
-    ensures { option_map (λ r. (says_of r.0, r.1.now)) result ≡ said N M text.now }
-{
-    let (numbers, rest) = numbers(text);
-    let (bytes, rest) = tail(rest);
-    let after = rest.strip_prefix(b"\n")?;
-    Some((Said { numbers, bytes }, after))
-}
-
-// A line: its letter, and what it says, if it has the form.
-#[derive(Drop)]
-pub struct Line<const N: usize, const M: usize> {
-    pub letter: u8,
-    pub said: Option<Said<N, M>>,
-}
-
-impl<const N: usize, const M: usize> Line<N, M> {
-    // Whether a test of its numbers and bytes agrees with the line. With one that hasn't the form nothing agrees.
-    pub fn agrees<F: Fn(&[usize], &[u8]) -> bool>(&self, test: F) -> bool
-        requires { F.IsAlwaysCallable test }
-        ensures none { self.now.said ≡ None → result ≡ false }
-        ensures some { IfSome self.now.said (λ s. (n : _) × (b : _) × (n.now ≡ s.numbers.items) × (b.now ≡ s.bytes.items) × F.post test n b result) }
+impl<const N: usize, const M: usize> Said<N, M> {
+    fn parts(&self) -> (&[usize], &[u8])
+        ensures { (result.0.now ≡ self.now.numbers.items) × (result.1.now ≡ self.now.bytes.items) }
     {
-        let Some(said) = &self.said else {
-            return false;
-        };
-        test(said.numbers.as_slice(), said.bytes.as_slice())
+        (self.numbers.as_slice(), self.bytes.as_slice())
     }
 }
 
-// The lines of a list, with room for so many numbers and bytes. One that hasn't the form ends the list.
+// Reads into lent memory what the line says whose letter stands before a text, and gives the text behind the line. None where it hasn't the
+// form, or has no room.
+#[tactic(auto, using(crate::proofs::Digits::behind_is, crate::proofs::Digits::behind_not), unfolding(crate::specs::Lines::said))]
+fn says<'a, const N: usize, const M: usize>(
+    text: &'a [u8],
+    lent: &mut Said<N, M>,
+) -> Option<&'a [u8]>
+    ensures { option_map (λ rest. (says_of lent.new, rest.now)) result ≡ said N M text.now }
+{
+    let rest = numbers(text, &mut lent.numbers);
+    let rest = tail(rest, &mut lent.bytes);
+    rest.strip_prefix(b"\n")
+}
+
+// A line: its letter, and its numbers and bytes, if it has the form.
+#[derive(Clone, Copy)]
+pub struct Line<'b> {
+    pub letter: u8,
+    pub said: Option<(&'b [usize], &'b [u8])>,
+}
+
+// The lines of a list, with room for so many numbers and bytes. One that hasn't the form ends the list. The list keeps the memory that a line is
+// read into, so that it is no iterator: what an iterator gives can't borrow from it.
 #[derive(Drop)]
 pub struct Lines<'a, const N: usize, const M: usize> {
     text: &'a [u8],
+    said: Said<N, M>,
 }
 
 impl<'a, const N: usize, const M: usize> Lines<'a, N, M> {
+    ghost use Rattle.vectors.specs.Reading.{lines_row};
+
     pub fn new(text: &'a [u8]) -> Lines<'a, N, M>
         ensures { result.text.now ≡ text.now }
     {
-        Lines { text }
-    }
-}
-
-impl<'a, const N: usize, const M: usize> Iterator for Lines<'a, N, M> {
-    type Item = Line<N, M>;
-
-    ghost next_gives = { λ s r t. (option_map line_of r, t.text.now) ≡ line N M s.text.now };
-
-    ghost remaining = { λ s. at_most (length s.text.now) };
-
-    // A line has a letter at least.
-    fn size_hint(&self) -> (usize, Option<usize>) {
-        (0, Some(self.text.len()))
+        Lines {
+            text,
+            said: Said {
+                numbers: ArrayVec::new(),
+                bytes: ArrayVec::new(),
+            },
+        }
     }
 
+    // The next line, in the list's memory. It has a letter at least, so that less text is left.
     #[tactic(auto, using(crate::proofs::Left::line_left), unfolding(crate::specs::Lines::line))]
-    fn next(&mut self) -> Option<Line<N, M>> {
+    pub fn read(&mut self) -> Option<Line<'_>>
+        ensures value { option_map line_of result ≡ (line N M self.old.text.now).0 }
+        ensures* after { sem 𝓛 (Rests (lines_row N.row M.row) self.entry (λ new.
+            (new.text.now ≡ (line N M self.old.text.now).1) × OnSome result (length new.text.now < length self.old.text.now))) }
+    {
         let (letter, text) = self.text.split_first()?;
         let letter = *letter;
-        match says(text) {
-            Some((said, rest)) => {
+        match says(text, &mut self.said) {
+            Some(rest) => {
                 self.text = rest;
                 Some(Line {
                     letter,
-                    said: Some(said),
+                    said: Some(self.said.parts()),
                 })
             }
             None => {

@@ -5,7 +5,7 @@ use Rattle.lsm_replay_open.proofs.compare.Given as goal
 
 abbrev pub invariant-loop-line : goal.invariant-loop-line
 invariant-loop-line l = record {
-  lines : l.openings.cases + l.lookups.cases + l.described.cases + length l.line-iterator.text.now ≤ length l.text;
+  lines : l.openings.cases + l.lookups.cases + l.described.cases + length l.lines.text.now ≤ length l.text;
   opened : l.opened.cases ≡ l.openings.cases;
   found : l.found.cases ≡ l.lookups.cases;
   openings_differ : l.openings.differ ≤ l.openings.cases;
@@ -14,3 +14,6 @@ invariant-loop-line l = record {
   found_differ : l.found.differ ≤ l.found.cases;
   described_differ : l.described.differ ≤ l.described.cases;
 }
+
+abbrev pub decreases-loop-line : goal.decreases-loop-line
+decreases-loop-line l = length l.lines.text.now
