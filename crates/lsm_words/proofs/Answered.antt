@@ -25,20 +25,17 @@ row_short (TooShort needed) = omega arith
 row_short UnevenBits = omega arith
 row_short NegativeValue = omega arith
 
-pub padded_row : (n k : ℕ) (r : Refusal) (row copied : List ℕ) → 5 ≤ n → row ≡ row_of r → copied ≡ row → k ≡ length row
-    → copied ++ drop k (replicate n 0) ≡ padded n (row_of r)
-padded_row n k r row copied h is same all =
-    let s = row_short r in
-    let e : n - length (row_of r) ≡ (5 - length (row_of r)) + (n - 5) = omega arith in
-    rw (all, same, is, drop-replicate, e, ← replicate-append-replicate) (sym (append_assoc (row_of r) _ _))
-
--- ---- word by word
-
 -- the row, and the zeros that fill it up to n words
 filled : (n : ℕ) (row : List ℕ) → 5 ≤ n → length row ≤ 5 → row ++ replicate (n - length row) 0 ≡ padded n row
 filled n row h s =
     let e : n - length row ≡ (5 - length row) + (n - 5) = omega arith in
     rw (e, ← replicate-append-replicate) (sym (append_assoc row _ _))
+
+pub padded_row : (n k : ℕ) (r : Refusal) (row copied : List ℕ) → 5 ≤ n → row ≡ row_of r → copied ≡ row → k ≡ length row
+    → copied ++ drop k (replicate n 0) ≡ padded n (row_of r)
+padded_row n k r row copied h is same all = rw (all, same, is, drop-replicate) (filled n (row_of r) h (row_short r))
+
+-- ---- word by word
 
 filled_length : (n : ℕ) (row : List ℕ) → length row ≤ n → length (row ++ replicate (n - length row) 0) ≡ n
 filled_length n row s = rw (length-append, length-replicate) (omega arith)

@@ -5,6 +5,7 @@ use Rattle.std.proofs.lemmas.Grind.{common_steps}
 use Rattle.std.proofs.lemmas.List.Sums.{AllPass-from_list_all, list_all-from_AllPass}
 use Rattle.std.specs.List.{All, list_all, zip}
 use Rattle.std.specs.Cmp.Lexicographic.{pointwise}
+use Rattle.lsm_format.proofs.Accepting.{both_hold}
 use Rattle.vectors.specs.Same.{same, kept, same_front, same_then_kept, itself, in_answer, same_answer}
 
 module _ {A B : Type 0} (E : A → B → Bool) where
@@ -27,11 +28,6 @@ module _ {A B : Type 0} (E : A → B → Bool) where
 
 -- ---- what a comparison that agrees tells
 
--- both of two that hold
-both : (a b : Bool) → (a && b) ≡ true → (a ≡ true) × (b ≡ true)
-both true b e = (refl, e)
-both false b e = cc
-
 module _ {X : Type 0} (number : X → ℕ) where
   -- words that are the same are the numbers of what is lent
   pub same_equal : (words : List ℕ) (lent : List X) → same number words lent ≡ true → words ≡ map number lent
@@ -39,7 +35,7 @@ module _ {X : Type 0} (number : X → ℕ) where
   same_equal [] (x ∷ xs) e = cc
   same_equal (w ∷ ws) [] e = cc
   same_equal (w ∷ ws) (x ∷ xs) e =
-      let b = both (eqb w (number x)) (same number ws xs) e in
+      let b = both_hold (eqb w (number x)) (same number ws xs) e in
       let first : w ≡ number x = eqb-true w (number x) b.0 in
       let rest : ws ≡ map number xs = same_equal ws xs b.1 in
       cc
@@ -60,8 +56,8 @@ module _ {X : Type 0} (number : X → ℕ) where
   pub then_each : (v : ℕ) (words : List ℕ) (lent : List X) (n : ℕ) → same_then_kept number v words lent n ≡ true
       → (n ≤ length lent) × (words ≡ map number (take n lent)) × All (λ x. number x ≡ v) (drop n lent)
   then_each v words lent n e =
-      let b = both (same_front number words lent n) (kept number v (drop n lent)) e in
-      let f = both (leb n (length lent)) (same number words (take n lent)) b.0 in
+      let b = both_hold (same_front number words lent n) (kept number v (drop n lent)) e in
+      let f = both_hold (leb n (length lent)) (same number words (take n lent)) b.0 in
       (leb-true n (length lent) f.0, same_equal words (take n lent) f.1, kept_each v (drop n lent) b.1)
 
 each_itself : (xs : List ℕ) → map itself xs ≡ xs
@@ -76,7 +72,7 @@ pub answer_each : (said : List ℕ) (number : ℕ) (answer : List ℕ) (most : �
 unfolding same_answer
 answer_each said number answer most e =
     let n = in_answer said most in
-    let b = both (ltb 0 n && eqb (get_or said 0 0) number) (same_then_kept itself 0 (take n said) answer n) e in
-    let f = both (ltb 0 n) (eqb (get_or said 0 0) number) b.0 in
+    let b = both_hold (ltb 0 n && eqb (get_or said 0 0) number) (same_then_kept itself 0 (take n said) answer n) e in
+    let f = both_hold (ltb 0 n) (eqb (get_or said 0 0) number) b.0 in
     let t = then_each itself 0 (take n said) answer n b.1 in
     (ltb-true 0 n f.0, eqb-true (get_or said 0 0) number f.1, t.0, t.1 ∙ each_itself (take n answer), t.2)
