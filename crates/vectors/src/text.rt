@@ -1,6 +1,6 @@
 // The lines of a list of recorded answers. A line is a letter, then hexadecimal numbers with a space before each, then a colon and
 // bytes where the case has any. Two digits are a byte, and `*NNBB` is NN bytes BB.
-ghost use Rattle.std.specs.Prelude.{◌≡◌, ◌++◌, ◌+◌, ◌<◌, ◌≤◌, length, replicate, option_map, OnSome};
+ghost use Rattle.std.specs.Prelude.{◌≡◌, ◌++◌, ◌+◌, ◌<◌, ◌≤◌, length, replicate, option_map, IfSome, OnSome};
 ghost use Rattle.std.specs.Borrow.{sem};
 ghost use Rattle.std.specs.Io.BufRead.{Rests};
 ghost use Rattle.arrayvec.specs.ArrayVec.{array_vec_len};
@@ -118,7 +118,8 @@ struct Said<const N: usize, const M: usize> {
 
 impl<const N: usize, const M: usize> Said<N, M> {
     fn parts(&self) -> (&[usize], &[u8])
-        ensures { (result.0.now ≡ self.now.numbers.items) × (result.1.now ≡ self.now.bytes.items) }
+        ensures value { (result.0.now ≡ self.now.numbers.items) × (result.1.now ≡ self.now.bytes.items) }
+        ensures room { (length result.0.now ≤ N) × (length result.1.now ≤ M) }
     {
         (self.numbers.as_slice(), self.bytes.as_slice())
     }
@@ -168,10 +169,12 @@ impl<'a, const N: usize, const M: usize> Lines<'a, N, M> {
         }
     }
 
-    // The next line, in the list's memory. It has a letter at least, so that less text is left.
+    // The next line, in the list's memory, with no more numbers and bytes than there is room for. It has a letter at least, so that less text
+    // is left.
     #[tactic(auto, using(crate::proofs::Left::line_left), unfolding(crate::specs::Lines::line))]
     pub fn read(&mut self) -> Option<Line<'_>>
         ensures value { option_map line_of result ≡ (line N M self.old.text.now).0 }
+        ensures room { IfSome result (λ l. IfSome l.said (λ s. (length s.0.now ≤ N) × (length s.1.now ≤ M))) }
         ensures* after { sem 𝓛 (Rests (lines_row N.row M.row) self.entry (λ new.
             (new.text.now ≡ (line N M self.old.text.now).1) × OnSome result (length new.text.now < length self.old.text.now))) }
     {
